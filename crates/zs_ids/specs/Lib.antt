@@ -1,0 +1,6 @@
+pub mod Key
+pub mod Blocks
+pub mod Graph
+pub mod GraphTree
+pub mod GraphValid
+pub mod GraphChange
