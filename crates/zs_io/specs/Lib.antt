@@ -1,0 +1,7 @@
+pub mod Told
+pub mod Faults
+pub mod Crash
+pub mod Calls
+pub mod CallLaws
+pub mod Ranges
+pub mod Moments
