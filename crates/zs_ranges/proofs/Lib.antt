@@ -1,0 +1,5 @@
+pub mod Cutting
+pub mod Joined
+pub mod Merging
+pub mod Rises
+pub mod Unique
