@@ -1,0 +1,80 @@
+//! A dataset's map from keys to block pointers, in a tree of its own.
+//!
+//! Layer: above `zs_ids`, which has the trait `Blocks` and its meaning. The record of a pool's state has its
+//! datasets in such maps, and tests of the crates that are generic in a map use it.
+//! Model: the list of the map's entries in order of key.
+//! Promise: each call of `Blocks` is that of one finite map; the keys always rise; after want of memory the
+//! map is as it was. `get` and `replace` cost O(log n), `next_from` O(log n) and a step for each entry that it
+//! passes because of its birth, `copy` O(n).
+//!
+//! To change what a map must do see `zs_ids::Blocks`. A map whose copies share their entries is a type beside
+//! this one, and nothing above has to know which of the two it has.
+#![tactic(auto)]
+
+ghost use Rattle.std.specs.Prelude.{◌≡◌, []};
+ghost use Rattle.std.specs.BTreeMap.{IsOrdered};
+ghost use Rattle.std.proofs.Props.{props};
+ghost use Rattle.zs_ids.specs.Key.{key_cmp};
+
+use std::alloc::{AllocError, Global};
+use std::collections::BTreeMap;
+use zs_ids::{Blocks, Bp, Key};
+
+/// A map of its own from keys to block pointers: no two share memory, and a copy copies every entry.
+#[derive(Drop)]
+pub struct Flat {
+    map: BTreeMap<Key, Bp>,
+    ghost ordered: { IsOrdered key_cmp map } by { Prim.hlevel props },
+}
+
+impl Flat {
+    /// A map without entries. Takes no memory.
+    pub fn new(alloc: Global) -> Self
+        ensures { result.map.entries ≡ [] }
+    {
+        Flat {
+            map: BTreeMap::new(alloc),
+        }
+    }
+}
+
+impl Blocks for Flat {
+    ghost entries = { λ f. f.map.entries };
+
+    fn empty(alloc: Global) -> Self {
+        Flat::new(alloc)
+    }
+
+    fn get(&self, key: Key) -> Option<Bp> {
+        self.map.get(&key).copied()
+    }
+
+    fn next_from(&self, from: Key, above: u64) -> Option<(Key, Bp)> {
+        for (key, bp) in self.map.range(from..) {
+            if bp.birth > above {
+                return Some((*key, *bp));
+            }
+        }
+        None
+    }
+
+    fn replace(&mut self, key: Key, bp: Bp) -> Result<Option<Bp>, AllocError> {
+        let old = self.map.insert(key, bp)?;
+        Ok(old)
+    }
+
+    fn copy(&self) -> Result<Self, AllocError> {
+        Ok(Flat {
+            map: self.map.clone()?,
+        })
+    }
+
+    fn len(&self) -> usize {
+        self.map.len()
+    }
+
+    ghost in_order = { λ f. f.ordered };
+}
+
+#[cfg(test)]
+mod tests;
