@@ -1,0 +1,2 @@
+pub mod Txg
+pub mod Late
