@@ -1,0 +1,3 @@
+pub mod ScriptLemmas
+pub mod RangeLemmas
+pub mod NumberLemmas

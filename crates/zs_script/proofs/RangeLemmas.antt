@@ -1,0 +1,279 @@
+-- What is read is in range.
+use Rattle.std.proofs.Common.{◌≡◌, ℕ, ◌+◌, ◌%◌, ◌==◌, ◌≤◌, nat_lt, ◌&&◌, ◌||◌, slice_index, Bool, true, false, cond, List, [], ◌∷◌, ◌++◌, length, take, Option, None, Some, Result, Ok, Err, refl, ap, subst}
+use Rattle.std.proofs.Math.Nat.{le_antisymm}
+use Rattle.std.proofs.lemmas.Bool.{ltb-false, eqb-true}
+use Rattle.std.proofs.lemmas.List.Elements.{All-from_recursion}
+use Rattle.std.specs.List.{list_all, AllByRecursion}
+use Rattle.std.specs.Option.{option_to_list}
+use Rattle.std.specs.Int.{is_power_of_two}
+use Rattle.zs_ids.specs.declared.dataset.DsName.{DsName}
+use Rattle.zs_script.specs.Faults.{◌>>=◌}
+use Rattle.zs_script.specs.Verbs.{verb_of}
+use Rattle.zs_script.specs.Fields.{digits_from, number_of, size_of, blocks_of, name_of, ds_of}
+use Rattle.zs_script.specs.Rows.{any_number, object_of, levels_of, leaf_of, pool_with, pool_of, fs_of, make_with, make_of, read_of, alone_of, command_of}
+use Rattle.zs_script.specs.Script.{TextLine, is_skipped, is_text_byte, words_of, is_allowed, with_command, with_line, command_at, command_in, at_line, line_with, line_of, lines_from, some_line, nothing_before, lines_of, script_bytes, parsed_script}
+use Rattle.zs_script.specs.Lines.{IsPool, IsMake, IsRead, IsFirst, IsLater, IsScript}
+use Rattle.zs_script.specs.declared.command.Command.{Command}
+use Rattle.zs_script.specs.declared.command.Command.TheVariants as commands
+use Rattle.zs_script.specs.declared.command.Line.{Line}
+use Rattle.zs_script.specs.declared.command.ScriptFault.TheVariants as faults
+use Rattle.zs_script.specs.declared.command.Why.{Why}
+use Rattle.zs_script.specs.declared.command.Why.TheVariants as why
+use Rattle.zs_script.specs.declared.verb.Verb.{Verb}
+use Rattle.zs_script.specs.declared.verb.Verb.TheVariants as verbs
+use Rattle.zs_script.specs.declared.script.Before.{Before}
+
+-- what follows a reading that succeeds is of what it read
+pub bind_ok : {A B E : Type 0} (r : Result A E) (f : A → Result B E) (y : B) → (r >>= f) ≡ Ok y → (x : A) × (r ≡ Ok x) × (f x ≡ Ok y)
+bind_ok (Ok x) f y h = (x, refl, h)
+bind_ok (Err e) f y h = cc
+
+-- a test that passed
+pub test_ok : {B E : Type 0} (b : Bool) (e : E) (r : Result B E) (y : B) → cond b r (Err e) ≡ Ok y → (b ≡ true) × (r ≡ Ok y)
+test_ok true e r y h = (refl, h)
+test_ok false e r y h = cc
+
+-- a test that failed
+pub guard_ok : {B E : Type 0} (b : Bool) (e : E) (r : Result B E) (y : B) → cond b (Err e) r ≡ Ok y → (b ≡ false) × (r ≡ Ok y)
+guard_ok true e r y h = cc
+guard_ok false e r y h = (refl, h)
+
+pub or_false : (a b : Bool) → (a || b) ≡ false → (a ≡ false) × (b ≡ false)
+or_false true b h = cc
+or_false false b h = (refl, h)
+
+pub ok_same : {A E : Type 0} (x y : A) → ◌≡◌ {A = Result A E} (Ok x) (Ok y) → x ≡ y
+ok_same x y h = cc
+
+-- a number in a range
+pub record InRange (low high n : ℕ) : Type 0 where
+  pub low_is : low ≤ n
+  pub high_is : n ≤ high
+
+pub ranged : (low high m n : ℕ) → cond (nat_lt m low || nat_lt high m) (Err why.Number) (Ok m) ≡ Ok n → InRange low high n
+ranged low high m n h =
+    let g = guard_ok (nat_lt m low || nat_lt high m) why.Number (Ok m) n h in
+    let o = or_false (nat_lt m low) (nat_lt high m) g.0 in
+    let same = ok_same m n g.1 in
+    record { low_is = subst (λ x. low ≤ x) same (ltb-false m low o.0); high_is = subst (λ x. x ≤ high) same (ltb-false high m o.1) }
+
+-- a number that is read lies in its range
+number_in : (low high n : ℕ) (word : List ℕ) → number_of low high word ≡ Ok n → InRange low high n
+unfolding number_of
+number_in low high n word h =
+    let plain = guard_ok (length word == 0 || nat_lt 1 (length word) && slice_index word 0 == 48) why.Number (digits_from 0 word >>= λ m. cond (nat_lt m low || nat_lt high m) (Err why.Number) (Ok m)) n h in
+    let read = bind_ok (digits_from 0 word) (λ m. cond (nat_lt m low || nat_lt high m) (Err why.Number) (Ok m)) n plain.1 in
+    ranged low high read.0 n read.2
+
+size_in : (n : ℕ) (word : List ℕ) → size_of word ≡ Ok n → (InRange 512 131072 n) × (is_power_of_two n ≡ true)
+unfolding size_of
+size_in n word h =
+    let read = bind_ok (number_of 512 131072 word) (λ m. cond (is_power_of_two m) (Ok m) (Err why.Number)) n h in
+    let fits = test_ok (is_power_of_two read.0) why.Number (Ok read.0) n read.2 in
+    let same = ok_same read.0 n fits.1 in
+    (subst (λ x. InRange 512 131072 x) same (number_in 512 131072 read.0 word read.1), subst (λ x. is_power_of_two x ≡ true) same fits.0)
+
+blocks_in : (n : ℕ) (word : List ℕ) → blocks_of word ≡ Ok n → (InRange 64 65536 n) × (n % 4 ≡ 0)
+unfolding blocks_of
+blocks_in n word h =
+    let read = bind_ok (number_of 64 65536 word) (λ m. cond (m % 4 == 0) (Ok m) (Err why.Number)) n h in
+    let fits = test_ok (read.0 % 4 == 0) why.Number (Ok read.0) n read.2 in
+    let same = ok_same read.0 n fits.1 in
+    (subst (λ x. InRange 64 65536 x) same (number_in 64 65536 read.0 word read.1), subst (λ x. x % 4 ≡ 0) same (eqb-true (read.0 % 4) 0 fits.0))
+
+pool_fits : (p w l e b : ℕ) (command : Command) → InRange 1 4 w → InRange 1 65536 l → InRange 1 1000 e → (InRange 64 65536 b) × (b % 4 ≡ 0) → ◌≡◌ {A = Result Command Why} (Ok (commands.Pool p w l e b)) (Ok command) → IsFirst command
+pool_fits p w l e b command ww ll ee bb is =
+    let fit : IsPool w l e b = record { least_width = ww.low_is; most_width = ww.high_is; least_limit = ll.low_is; most_limit = ll.high_is; least_every = ee.low_is; most_every = ee.high_is; least_blocks = bb.0.low_is; most_blocks = bb.0.high_is; whole_blocks = bb.1 } in
+    subst IsFirst (ok_same (commands.Pool p w l e b) command is) fit
+
+-- what a `pool` line gives is in range
+pool_in : (command : Command) (words : List (List ℕ)) → pool_of words ≡ Ok command → IsFirst command
+unfolding pool_of pool_with
+pool_in command [] h = cc
+pool_in command (a ∷ []) h = cc
+pool_in command (a ∷ b ∷ []) h = cc
+pool_in command (a ∷ b ∷ c ∷ []) h = cc
+pool_in command (a ∷ b ∷ c ∷ d ∷ []) h = cc
+pool_in command (a ∷ b ∷ c ∷ d ∷ e ∷ []) h = cc
+pool_in command (_ ∷ pool ∷ width ∷ limit ∷ every ∷ blocks ∷ []) h =
+    let kb : ℕ → ℕ → ℕ → ℕ → ℕ → Result Command Why = λ p w l e b. Ok (commands.Pool p w l e b) in
+    let ke : ℕ → ℕ → ℕ → ℕ → Result Command Why = λ p w l e. blocks_of blocks >>= kb p w l e in
+    let kl : ℕ → ℕ → ℕ → Result Command Why = λ p w l. number_of 1 1000 every >>= ke p w l in
+    let kw : ℕ → ℕ → Result Command Why = λ p w. number_of 1 65536 limit >>= kl p w in
+    let kp : ℕ → Result Command Why = λ p. number_of 1 4 width >>= kw p in
+    let p = bind_ok (any_number pool) kp command h in
+    let w = bind_ok (number_of 1 4 width) (kw p.0) command p.2 in
+    let l = bind_ok (number_of 1 65536 limit) (kl p.0 w.0) command w.2 in
+    let e = bind_ok (number_of 1 1000 every) (ke p.0 w.0 l.0) command l.2 in
+    let b = bind_ok (blocks_of blocks) (kb p.0 w.0 l.0 e.0) command e.2 in
+    pool_fits p.0 w.0 l.0 e.0 b.0 command (number_in 1 4 w.0 width w.1) (number_in 1 65536 l.0 limit l.1) (number_in 1 1000 e.0 every e.1) (blocks_in b.0 blocks b.1) b.2
+pool_in command (a ∷ b ∷ c ∷ d ∷ e ∷ f ∷ g ∷ rest) h = cc
+
+make_fits : (d : DsName) (o l s f : ℕ) (command : Command) → InRange 1 2047 o → InRange 1 1 l → (InRange 512 131072 s) × (is_power_of_two s ≡ true) → ◌≡◌ {A = Result Command Why} (Ok (commands.Make d o l s f)) (Ok command) → IsLater command
+make_fits d o l s f command oo ll ss is =
+    let fit : IsMake o l s = record { least_object = oo.low_is; most_object = oo.high_is; levels = le_antisymm ll.high_is ll.low_is; least_size = ss.0.low_is; most_size = ss.0.high_is; power = ss.1 } in
+    subst IsLater (ok_same (commands.Make d o l s f) command is) fit
+
+-- what a `make` line gives is in range
+make_in : (command : Command) (words : List (List ℕ)) → make_of words ≡ Ok command → IsLater command
+unfolding make_of make_with
+make_in command [] h = cc
+make_in command (a ∷ []) h = cc
+make_in command (a ∷ b ∷ []) h = cc
+make_in command (a ∷ b ∷ c ∷ []) h = cc
+make_in command (a ∷ b ∷ c ∷ d ∷ []) h = cc
+make_in command (a ∷ b ∷ c ∷ d ∷ e ∷ []) h = cc
+make_in command (_ ∷ ds ∷ object ∷ levels ∷ size ∷ fill ∷ []) h =
+    let kf : DsName → ℕ → ℕ → ℕ → ℕ → Result Command Why = λ d o l s f. Ok (commands.Make d o l s f) in
+    let ks : DsName → ℕ → ℕ → ℕ → Result Command Why = λ d o l s. any_number fill >>= kf d o l s in
+    let kl : DsName → ℕ → ℕ → Result Command Why = λ d o l. size_of size >>= ks d o l in
+    let ko : DsName → ℕ → Result Command Why = λ d o. levels_of levels >>= kl d o in
+    let kd : DsName → Result Command Why = λ d. object_of object >>= ko d in
+    let d = bind_ok (ds_of ds) kd command h in
+    let o = bind_ok (object_of object) (ko d.0) command d.2 in
+    let l = bind_ok (levels_of levels) (kl d.0 o.0) command o.2 in
+    let s = bind_ok (size_of size) (ks d.0 o.0 l.0) command l.2 in
+    let f = bind_ok (any_number fill) (kf d.0 o.0 l.0 s.0) command s.2 in
+    make_fits d.0 o.0 l.0 s.0 f.0 command (number_in 1 2047 o.0 object o.1) (number_in 1 1 l.0 levels l.1) (size_in s.0 size s.1) f.2
+make_in command (a ∷ b ∷ c ∷ d ∷ e ∷ f ∷ g ∷ rest) h = cc
+
+-- what a `read` line gives is in range
+read_in : (command : Command) (words : List (List ℕ)) → read_of words ≡ Ok command → IsLater command
+unfolding read_of
+read_in command [] h = cc
+read_in command (a ∷ []) h = cc
+read_in command (a ∷ b ∷ []) h = cc
+read_in command (a ∷ b ∷ c ∷ []) h = cc
+read_in command (_ ∷ ds ∷ object ∷ leaf ∷ []) h =
+    let kl : DsName → ℕ → ℕ → Result Command Why = λ d o l. Ok (commands.Read d o l) in
+    let ko : DsName → ℕ → Result Command Why = λ d o. leaf_of leaf >>= kl d o in
+    let kd : DsName → Result Command Why = λ d. object_of object >>= ko d in
+    let d = bind_ok (ds_of ds) kd command h in
+    let o = bind_ok (object_of object) (ko d.0) command d.2 in
+    let l = bind_ok (leaf_of leaf) (kl d.0 o.0) command o.2 in
+    let oo = number_in 1 2047 o.0 object o.1 in
+    let ll = number_in 0 262143 l.0 leaf l.1 in
+    let fit : IsRead o.0 l.0 = record { least_object = oo.low_is; most_object = oo.high_is; most_leaf = ll.high_is } in
+    subst IsLater (ok_same (commands.Read d.0 o.0 l.0) command l.2) fit
+read_in command (a ∷ b ∷ c ∷ d ∷ e ∷ rest) h = cc
+
+fs_in : (command : Command) (words : List (List ℕ)) → fs_of words ≡ Ok command → IsLater command
+unfolding fs_of
+fs_in command [] h = cc
+fs_in command (a ∷ []) h = cc
+fs_in command (_ ∷ name ∷ []) h =
+    let n = bind_ok (name_of name) (λ n. Ok (commands.Fs n)) command h in
+    let fit : IsLater (commands.Fs n.0) = tt in
+    subst IsLater (ok_same (commands.Fs n.0) command n.2) fit
+fs_in command (a ∷ b ∷ c ∷ rest) h = cc
+
+alone_in : (alone command : Command) (words : List (List ℕ)) → alone_of alone words ≡ Ok command → IsLater alone → IsLater command
+unfolding alone_of
+alone_in alone command [] h fit = cc
+alone_in alone command (a ∷ []) h fit = subst IsLater (ok_same alone command h) fit
+alone_in alone command (a ∷ b ∷ rest) h fit = cc
+
+-- what may stand where a pool was made, or not
+Fits : Bool → Command → Type 0
+Fits true command = IsLater command
+Fits false command = IsFirst command
+
+command_fits : (verb : Verb) (pool fs : Bool) (words : List (List ℕ)) (command : Command) → is_allowed (record { pool = pool; fs = fs }) verb ≡ true → command_of verb words ≡ Ok command → Fits pool command
+unfolding command_of Fits
+command_fits verbs.Pool true fs words command may h = cc
+command_fits verbs.Pool false fs words command may h = pool_in command words h
+command_fits verbs.Fs false fs words command may h = cc
+command_fits verbs.Fs true fs words command may h = fs_in command words h
+command_fits verbs.Make false fs words command may h = cc
+command_fits verbs.Make true fs words command may h = make_in command words h
+command_fits verbs.Read false fs words command may h = cc
+command_fits verbs.Read true fs words command may h = read_in command words h
+command_fits verbs.Sync false fs words command may h = cc
+command_fits verbs.Sync true fs words command may h = alone_in commands.Sync command words h tt
+command_fits verbs.Scrub false fs words command may h = cc
+command_fits verbs.Scrub true fs words command may h = alone_in commands.Scrub command words h tt
+command_fits verbs.Finish false fs words command may h = cc
+command_fits verbs.Finish true fs words command may h = alone_in commands.Finish command words h tt
+
+-- a line that is passed over, or one whose command may stand there
+FoundFits : Bool → Option Line → Type 0
+FoundFits pool None = Unit {0}
+FoundFits pool (Some line) = Fits pool line.command
+
+-- a line's command that was found is the one that the line commands
+at_ok : (number : ℕ) (r : Result Command Why) (command : Command) → at_line number r ≡ Ok command → r ≡ Ok command
+at_ok number (Ok c) command h = ap Ok (ok_same c command h)
+at_ok number (Err w) command h = cc
+
+words_fit : (pool fs : Bool) (words : List (List ℕ)) (command : Command) → command_at (record { pool = pool; fs = fs }) words ≡ Ok command → Fits pool command
+unfolding command_at
+words_fit pool fs words command h =
+    let v = bind_ok (verb_of words) (λ verb. cond (is_allowed (record { pool = pool; fs = fs }) verb) (command_of verb words) (Err why.Order)) command h in
+    let t = test_ok (is_allowed (record { pool = pool; fs = fs }) v.0) why.Order (command_of v.0 words) command v.2 in
+    command_fits v.0 pool fs words command t.0 t.1
+
+text_fits : (pool fs : Bool) (bytes : List ℕ) (command : Command) → command_in (record { pool = pool; fs = fs }) bytes ≡ Ok command → Fits pool command
+unfolding command_in
+text_fits pool fs bytes command h =
+    let t = test_ok (list_all is_text_byte bytes) why.Word (command_at (record { pool = pool; fs = fs }) (words_of bytes)) command h in
+    words_fit pool fs (words_of bytes) command t.1
+
+skipped_fits : (skipped : Bool) (number : ℕ) (pool fs : Bool) (bytes : List ℕ) (found : Option Line) → cond skipped (Ok None) (at_line number (command_in (record { pool = pool; fs = fs }) bytes) >>= λ command. Ok (Some (line_with number command))) ≡ Ok found → FoundFits pool found
+unfolding FoundFits
+skipped_fits true number pool fs bytes found h = subst (FoundFits pool) (ok_same None found h) tt
+skipped_fits false number pool fs bytes found h =
+    let c = bind_ok (at_line number (command_in (record { pool = pool; fs = fs }) bytes)) (λ command. Ok (Some (line_with number command))) found h in
+    let fits : FoundFits pool (Some (line_with number c.0)) = text_fits pool fs bytes c.0 (at_ok number (command_in (record { pool = pool; fs = fs }) bytes) c.0 c.1) in
+    subst (FoundFits pool) (ok_same (Some (line_with number c.0)) found c.2) fits
+
+line_fits : (number : ℕ) (pool fs : Bool) (line : TextLine) (found : Option Line) → line_of number (record { pool = pool; fs = fs }) line ≡ Ok found → FoundFits pool found
+unfolding line_of
+line_fits number pool fs line found h =
+    let g = guard_ok line.over (faults.Bad number why.Size) (cond (is_skipped line.bytes) (Ok None) (at_line number (command_in (record { pool = pool; fs = fs }) line.bytes) >>= λ command. Ok (Some (line_with number command)))) found h in
+    skipped_fits (is_skipped line.bytes) number pool fs line.bytes found g.1
+
+-- the lines that may follow
+Fit : Bool → List Line → Type 0
+Fit true lines = AllByRecursion (λ line. IsLater line.command) lines
+Fit false [] = Unit {0}
+Fit false (line ∷ lines) = IsFirst line.command × AllByRecursion (λ later. IsLater later.command) lines
+
+begun_first : (fs : Bool) (command : Command) → IsFirst command → (with_command (record { pool = false; fs = fs }) command).pool ≡ true
+begun_first fs (commands.Pool pool width limit every blocks) h = refl
+begun_first fs command h = absurd h
+
+begun_later : (fs : Bool) (command : Command) → IsLater command → (with_command (record { pool = true; fs = fs }) command).pool ≡ true
+begun_later fs (commands.Pool pool width limit every blocks) h = absurd h
+begun_later fs command h = refl
+
+joined : (pool fs : Bool) (found : Option Line) (more : List Line) → FoundFits pool found → Fit (with_line (record { pool = pool; fs = fs }) found).pool more → Fit pool (option_to_list found ++ more)
+unfolding Fit Fits FoundFits
+joined pool fs None more h rest = rest
+joined false fs (Some line) more h rest = (h, subst (λ (b : Bool). Fit b more) (begun_first fs line.command h) rest)
+joined true fs (Some line) more h rest = (h, subst (λ (b : Bool). Fit b more) (begun_later fs line.command h) rest)
+
+fit_nil : (pool : Bool) → Fit pool []
+unfolding Fit
+fit_nil true = tt
+fit_nil false = tt
+
+lines_fit : (lines : List TextLine) (number : ℕ) (before : Before) (all : List Line) → lines_from number before lines ≡ Ok all → Fit before.pool all
+unfolding lines_from
+lines_fit [] number before all h = subst (Fit before.pool) (ok_same [] all h) (fit_nil before.pool)
+lines_fit (line ∷ lines) number before all h =
+    let f = bind_ok (line_of number before line) (λ found. lines_from (number + 1) (with_line before found) lines >>= λ more. Ok (option_to_list found ++ more)) all h in
+    let m = bind_ok (lines_from (number + 1) (with_line before f.0) lines) (λ more. Ok (option_to_list f.0 ++ more)) all f.2 in
+    subst (Fit before.pool) (ok_same (option_to_list f.0 ++ m.0) all m.2)
+    (joined before.pool before.fs f.0 m.0 (line_fits number before.pool before.fs line f.0 f.1) (lines_fit lines (number + 1) (with_line before f.0) m.0 m.1))
+
+some_fits : (lines all : List Line) → Fit false lines → some_line lines ≡ Ok all → IsScript all
+unfolding Fit
+some_fits [] all fit h = cc
+some_fits (line ∷ lines) all fit h = subst IsScript (ok_same (line ∷ lines) all h) (fit.0, All-from_recursion _ lines fit.1)
+
+-- the lines of a script are a `pool` line and then lines of other commands, each in range
+pub script_fits : (bytes : List ℕ) (all : List Line) → parsed_script bytes ≡ Ok all → IsScript all
+unfolding parsed_script
+script_fits bytes all h =
+    let r = bind_ok (lines_from 1 nothing_before (lines_of (nat_lt script_bytes (length bytes)) (take script_bytes bytes))) some_line all h in
+    some_fits r.0 all (lines_fit _ 1 nothing_before r.0 r.1) r.2

@@ -1,0 +1,11 @@
+pub mod Refusals
+pub mod Faults
+pub mod Names
+pub mod Texts
+pub mod Verbs
+pub mod Fields
+pub mod Rows
+pub mod Script
+pub mod Reading
+pub mod Lines
+pub mod Laws

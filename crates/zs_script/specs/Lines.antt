@@ -1,0 +1,53 @@
+-- The lines that a script may have: what holds of all that is read.
+use Rattle.std.specs.Prelude.{◌≡◌, ℕ, ◌%◌, ◌≤◌, List, [], ◌∷◌, All, IsTrue}
+use Rattle.std.specs.Int.{is_power_of_two}
+use Rattle.zs_script.specs.declared.command.Command.{Command}
+use Rattle.zs_script.specs.declared.command.Command.TheVariants as commands
+use Rattle.zs_script.specs.declared.command.Line.{Line}
+
+-- the numbers of a `pool` line
+pub record IsPool (width limit every blocks : ℕ) : Type 0 where
+  pub least_width : 1 ≤ width
+  pub most_width : width ≤ 4
+  pub least_limit : 1 ≤ limit
+  pub most_limit : limit ≤ 65536
+  pub least_every : 1 ≤ every
+  pub most_every : every ≤ 1000
+  pub least_blocks : 64 ≤ blocks
+  pub most_blocks : blocks ≤ 65536
+  pub whole_blocks : blocks % 4 ≡ 0
+
+-- the numbers of a `make` line; objects have one level in this version
+pub record IsMake (object height size : ℕ) : Type 0 where
+  pub least_object : 1 ≤ object
+  pub most_object : object ≤ 2047
+  pub levels : height ≡ 1
+  pub least_size : 512 ≤ size
+  pub most_size : size ≤ 131072
+  pub power : IsTrue (is_power_of_two size)
+
+-- the numbers of a `read` line
+pub record IsRead (object leaf : ℕ) : Type 0 where
+  pub least_object : 1 ≤ object
+  pub most_object : object ≤ 2047
+  pub most_leaf : leaf ≤ 262143
+
+-- the first command
+abbrev pub IsFirst : Command → Type 0
+IsFirst (commands.Pool pool width limit every blocks) = IsPool width limit every blocks
+IsFirst _ = ⊥
+
+-- a later command
+abbrev pub IsLater : Command → Type 0
+IsLater (commands.Fs name) = Unit {0}
+IsLater (commands.Make ds object levels size fill) = IsMake object levels size
+IsLater (commands.Read ds object leaf) = IsRead object leaf
+IsLater commands.Sync = Unit {0}
+IsLater commands.Scrub = Unit {0}
+IsLater commands.Finish = Unit {0}
+IsLater _ = ⊥
+
+-- a `pool` line, and then lines of other commands
+abbrev pub IsScript : List Line → Type 0
+IsScript [] = ⊥
+IsScript (line ∷ lines) = IsFirst line.command × All (λ later. IsLater later.command) lines

@@ -1,0 +1,88 @@
+-- The lines of a script: for each command word, the words behind it. Each word is read from left to right, and the
+-- first fault decides.
+use Rattle.std.specs.Prelude.{ℕ, ◌-◌, ◌^◌, List, [], ◌∷◌, Result, Ok, Err}
+use Rattle.zs_script.specs.Faults.{◌>>=◌}
+use Rattle.zs_script.specs.Fields.{number_of, size_of, blocks_of, name_of, ds_of}
+use Rattle.zs_script.specs.declared.command.Command.{Command}
+use Rattle.zs_script.specs.declared.command.Command.TheVariants as commands
+use Rattle.zs_script.specs.declared.command.Why.{Why}
+use Rattle.zs_script.specs.declared.command.Why.TheVariants as why
+use Rattle.zs_script.specs.declared.verb.Verb.{Verb}
+use Rattle.zs_script.specs.declared.verb.Verb.TheVariants as verbs
+
+-- a number of 64 bits, as a pool's number and a fill
+abbrev pub any_number : List ℕ → Result ℕ Why
+any_number word = number_of 0 (2 ^ 64 - 1) word
+
+-- an object's number
+abbrev pub object_of : List ℕ → Result ℕ Why
+object_of word = number_of 1 2047 word
+
+-- how many levels an object has; objects have one level in this version
+abbrev pub levels_of : List ℕ → Result ℕ Why
+levels_of word = number_of 1 1 word
+
+-- a record's number
+abbrev pub leaf_of : List ℕ → Result ℕ Why
+leaf_of word = number_of 0 262143 word
+
+-- the words of `pool`
+unfoldable pub pool_with : List ℕ → List ℕ → List ℕ → List ℕ → List ℕ → Result Command Why
+pool_with pool width limit every blocks = do
+  pool ← any_number pool
+  width ← number_of 1 4 width
+  limit ← number_of 1 65536 limit
+  every ← number_of 1 1000 every
+  blocks ← blocks_of blocks
+  Ok (commands.Pool pool width limit every blocks)
+
+-- `pool ID W LIMIT EVERY BLOCKS`
+unfoldable pub pool_of : List (List ℕ) → Result Command Why
+pool_of (_ ∷ pool ∷ width ∷ limit ∷ every ∷ blocks ∷ []) = pool_with pool width limit every blocks
+pool_of _ = Err why.Count
+
+-- `fs NAME`
+unfoldable pub fs_of : List (List ℕ) → Result Command Why
+fs_of (_ ∷ name ∷ []) = do
+  name ← name_of name
+  Ok (commands.Fs name)
+fs_of _ = Err why.Count
+
+-- the words of `make`
+unfoldable pub make_with : List ℕ → List ℕ → List ℕ → List ℕ → List ℕ → Result Command Why
+make_with ds object levels size fill = do
+  ds ← ds_of ds
+  object ← object_of object
+  levels ← levels_of levels
+  size ← size_of size
+  fill ← any_number fill
+  Ok (commands.Make ds object levels size fill)
+
+-- `make DS OBJ LEVELS SIZE FILL`
+unfoldable pub make_of : List (List ℕ) → Result Command Why
+make_of (_ ∷ ds ∷ object ∷ levels ∷ size ∷ fill ∷ []) = make_with ds object levels size fill
+make_of _ = Err why.Count
+
+-- `read DS OBJ LEAF`
+unfoldable pub read_of : List (List ℕ) → Result Command Why
+read_of (_ ∷ ds ∷ object ∷ leaf ∷ []) = do
+  ds ← ds_of ds
+  object ← object_of object
+  leaf ← leaf_of leaf
+  Ok (commands.Read ds object leaf)
+read_of _ = Err why.Count
+
+-- a command word alone
+unfoldable pub alone_of : Command → List (List ℕ) → Result Command Why
+alone_of command (_ ∷ []) = Ok command
+alone_of command _ = Err why.Count
+
+-- the command of a line's words
+unfoldable pub command_of : Verb → List (List ℕ) → Result Command Why
+command_of verbs.Pool words = pool_of words
+command_of verbs.Fs words = fs_of words
+command_of verbs.Make words = make_of words
+command_of verbs.Read words = read_of words
+command_of verbs.Sync words = alone_of commands.Sync words
+command_of verbs.Scrub words = alone_of commands.Scrub words
+command_of verbs.Finish words = alone_of commands.Finish words

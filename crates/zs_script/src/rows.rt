@@ -1,0 +1,138 @@
+//! A line's words, and the command that they make.
+
+ghost use Rattle.std.specs.Prelude.{◌≡◌, map};
+ghost use Rattle.zs_script.specs.Rows.{pool_with, pool_of, fs_of, make_with, make_of, read_of, alone_of, command_of};
+
+use crate::command::{Command, Why};
+use crate::fields::{blocks, ds_name, name, number, size};
+use crate::verb::Verb;
+
+/// The most levels of an object. Objects have one level in this version.
+const LEVELS: u64 = 1;
+
+/// The command of a line's words, of which the first is the command word.
+#[tactic(auto, unfolding(crate::specs::Rows::command_of))]
+pub(crate) fn command_with(verb: Verb, words: &[&[u8]]) -> Result<Command, Why>
+    ensures { result ≡ command_of verb (map (λ w. w.now) words.now) }
+{
+    match verb {
+        Verb::Pool => pool(words),
+        Verb::Fs => fs(words),
+        Verb::Make => make(words),
+        Verb::Read => read(words),
+        Verb::Sync => alone(words, Command::Sync),
+        Verb::Scrub => alone(words, Command::Scrub),
+        Verb::Finish => alone(words, Command::Finish),
+    }
+}
+
+/// `pool ID W LIMIT EVERY BLOCKS`.
+#[tactic(auto, unfolding(crate::specs::Rows::pool_of))]
+fn pool(words: &[&[u8]]) -> Result<Command, Why>
+    ensures { result ≡ pool_of (map (λ w. w.now) words.now) }
+{
+    match words {
+        [_, pool, width, limit, every, blocks] => pool_with(pool, width, limit, every, blocks),
+        _ => Err(Why::Count),
+    }
+}
+
+#[tactic(auto, unfolding(crate::specs::Rows::pool_with))]
+fn pool_with(
+    pool: &[u8],
+    width: &[u8],
+    limit: &[u8],
+    every: &[u8],
+    most: &[u8],
+) -> Result<Command, Why>
+    ensures { result ≡ pool_with pool.now width.now limit.now every.now most.now }
+{
+    let pool = number(pool, 0, u64::MAX)?;
+    let width = number(width, 1, 4)? as u8;
+    let limit = number(limit, 1, 65_536)? as u32;
+    let every = number(every, 1, 1000)? as u32;
+    let blocks = blocks(most)?;
+    Ok(Command::Pool {
+        pool,
+        width,
+        limit,
+        every,
+        blocks,
+    })
+}
+
+/// `fs NAME`.
+#[tactic(auto, unfolding(crate::specs::Rows::fs_of))]
+fn fs(words: &[&[u8]]) -> Result<Command, Why>
+    ensures { result ≡ fs_of (map (λ w. w.now) words.now) }
+{
+    match words {
+        [_, head] => {
+            let name = name(head)?;
+            Ok(Command::Fs { name })
+        }
+        _ => Err(Why::Count),
+    }
+}
+
+/// `make DS OBJ LEVELS SIZE FILL`.
+#[tactic(auto, unfolding(crate::specs::Rows::make_of))]
+fn make(words: &[&[u8]]) -> Result<Command, Why>
+    ensures { result ≡ make_of (map (λ w. w.now) words.now) }
+{
+    match words {
+        [_, ds, object, levels, size, fill] => make_with(ds, object, levels, size, fill),
+        _ => Err(Why::Count),
+    }
+}
+
+#[tactic(auto, unfolding(crate::specs::Rows::make_with))]
+fn make_with(
+    ds: &[u8],
+    object: &[u8],
+    levels: &[u8],
+    bytes: &[u8],
+    fill: &[u8],
+) -> Result<Command, Why>
+    ensures { result ≡ make_with ds.now object.now levels.now bytes.now fill.now }
+{
+    let ds = ds_name(ds)?;
+    let object = number(object, 1, 2047)? as u16;
+    let levels = number(levels, 1, LEVELS)? as u8;
+    let size = size(bytes)?;
+    let fill = number(fill, 0, u64::MAX)?;
+    Ok(Command::Make {
+        ds,
+        object,
+        levels,
+        size,
+        fill,
+    })
+}
+
+/// `read DS OBJ LEAF`.
+#[tactic(auto, unfolding(crate::specs::Rows::read_of))]
+fn read(words: &[&[u8]]) -> Result<Command, Why>
+    ensures { result ≡ read_of (map (λ w. w.now) words.now) }
+{
+    match words {
+        [_, ds, object, leaf] => {
+            let ds = ds_name(ds)?;
+            let object = number(object, 1, 2047)? as u16;
+            let leaf = number(leaf, 0, 262_143)? as u32;
+            Ok(Command::Read { ds, object, leaf })
+        }
+        _ => Err(Why::Count),
+    }
+}
+
+/// A command word alone.
+#[tactic(auto, unfolding(crate::specs::Rows::alone_of))]
+fn alone(words: &[&[u8]], command: Command) -> Result<Command, Why>
+    ensures { result ≡ alone_of command (map (λ w. w.now) words.now) }
+{
+    match words {
+        [_] => Ok(command),
+        _ => Err(Why::Count),
+    }
+}

@@ -1,0 +1,64 @@
+//! The command words.
+
+ghost use Rattle.std.specs.Prelude.{◌≡◌, map};
+ghost use Rattle.zs_script.specs.Verbs.{verb_named, followed_verb, verb_of};
+
+use crate::command::Why;
+
+/// A command word.
+#[derive(Clone, Copy, Debug, PartialEq, Eq)]
+pub(crate) enum Verb {
+    Pool,
+    Fs,
+    Make,
+    Read,
+    Sync,
+    Scrub,
+    Finish,
+}
+
+/// The command word of a line's words.
+#[tactic(auto, unfolding(crate::specs::Verbs::verb_of))]
+pub(crate) fn verb_in(words: &[&[u8]]) -> Result<Verb, Why>
+    ensures { result ≡ verb_of (map (λ w. w.now) words.now) }
+{
+    match words {
+        [] => Err(Why::Word),
+        [word] => named(word),
+        [word, ..] => followed(named(word)?),
+    }
+}
+
+/// The command word, where a word follows it. Behind `scrub` none may stand.
+fn followed(verb: Verb) -> Result<Verb, Why>
+    ensures { result ≡ followed_verb verb }
+{
+    match verb {
+        Verb::Scrub => Err(Why::Word),
+        other => Ok(other),
+    }
+}
+
+/// The command word that is spelled so.
+#[tactic(auto, unfolding(crate::specs::Verbs::verb_named))]
+fn named(word: &[u8]) -> Result<Verb, Why>
+    ensures { result ≡ verb_named word.now }
+{
+    if word == b"pool".as_slice() {
+        Ok(Verb::Pool)
+    } else if word == b"fs".as_slice() {
+        Ok(Verb::Fs)
+    } else if word == b"make".as_slice() {
+        Ok(Verb::Make)
+    } else if word == b"read".as_slice() {
+        Ok(Verb::Read)
+    } else if word == b"sync".as_slice() {
+        Ok(Verb::Sync)
+    } else if word == b"scrub".as_slice() {
+        Ok(Verb::Scrub)
+    } else if word == b"finish".as_slice() {
+        Ok(Verb::Finish)
+    } else {
+        Err(Why::Word)
+    }
+}
