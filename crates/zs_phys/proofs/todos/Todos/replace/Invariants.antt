@@ -1,0 +1,7 @@
+use Rattle.std.proofs.Common.{◌≡◌, ◌++◌, drop, take, map}
+use Rattle.zs_phys.specs.Handlers.{entry_at, instead}
+use Rattle.zs_phys.proofs.todos.Todos.replace.Given as goal
+
+abbrev pub invariant-loop-entry : goal.invariant-loop-entry
+invariant-loop-entry l =
+    l.entry-items ≡ map (entry_at (instead l.id l.by)) (take l.entry-index l.initial.entry-items) ++ drop l.entry-index l.initial.entry-items

@@ -1,0 +1,5 @@
+pub mod Scope
+pub mod Ahead
+pub mod Sound
+pub mod Handlers
+pub mod Turn
