@@ -1,0 +1,66 @@
+-- The laws of coverage: each event, with its change of the graph and of the scan state, and each turn of the walk,
+-- keeps a graph valid, a state sound, and the state with what was examined covering.
+use Rattle.std.specs.Prelude.{◌≡◌, ◌≤◌, ℕ, Bool, List, Option, IsTrue}
+use Rattle.zs_ids.specs.declared.key.Key.{Key}
+use Rattle.zs_ids.specs.declared.block.Bp.{Bp}
+use Rattle.zs_ids.specs.declared.block.Piece.{Piece}
+use Rattle.zs_ids.specs.declared.dataset.DsId.{DsId}
+use Rattle.zs_ids.specs.declared.dataset.Name.{Name}
+use Rattle.zs_ids.specs.Graph.{Has, Dataset, Graph, IsLive}
+use Rattle.zs_ids.specs.GraphTree.{IsHomeOf}
+use Rattle.zs_ids.specs.GraphValid.{Room, Valid, origin}
+use Rattle.zs_ids.specs.GraphChange.{cloned, with_fs, with_snapshot, destroyed, swapped, applied, MayClone, MaySnapshot, MayDestroy, MaySwap, MayApply}
+use Rattle.zs_phys.specs.declared.scope.Scope.{Scope}
+use Rattle.zs_phys.specs.declared.phys.Phys.{Phys}
+use Rattle.zs_phys.specs.Ahead.{Covers}
+use Rattle.zs_phys.specs.Sound.{Sound}
+use Rattle.zs_phys.specs.Handlers.{Handled, Event as events}
+use Rattle.zs_phys.specs.Turn.{Turn}
+
+-- a graph that is valid up to n, with a state that is sound for h and covers, where h is the transaction group whose
+-- tasks come next
+pub record IsCovered (room : Room) (g : Graph) (n h : ℕ) (scope : Scope) (s : Phys) (done : Piece → Bool) : Type 0 where
+  pub early : n ≤ h
+  pub valid : Valid room g n
+  pub sound : Sound g h scope s
+  pub covers : Covers g scope s done
+
+-- what was done of the pieces that are live still stays done; the others may leave
+abbrev pub StaysDone : Graph → (Piece → Bool) → (Piece → Bool) → Type 0
+StaysDone g done more = (p : Piece) → IsLive g p → IsTrue (done p) → IsTrue (more p)
+
+-- each live piece of a valid graph has an entry at home, in one dataset and at one key
+abbrev pub HomeLaw : Type 0
+HomeLaw = (room : Room) (g : Graph) (n : ℕ) (p : Piece) → Valid room g n → IsLive g p → (id : DsId) × (e : Key × Bp) × IsHomeOf g id e p × ((id' : DsId) (e' : Key × Bp) → IsHomeOf g id' e' p → (id' ≡ id) × (e' ≡ e))
+
+-- a filesystem is made
+abbrev pub FsLaw : Type 0
+FsLaw = (room : Room) (g : Graph) (n h : ℕ) (scope : Scope) (s : Phys) (done more : Piece → Bool) (id : DsId) (name : Name) → IsCovered room g n h scope s done → MayClone g origin id name → StaysDone (with_fs g id name) done more → IsCovered room (with_fs g id name) h h scope s more
+
+-- a clone is made
+abbrev pub CloneLaw : Type 0
+CloneLaw = (room : Room) (g : Graph) (n h : ℕ) (scope : Scope) (s : Phys) (done more : Piece → Bool) (snap : Dataset) (id : DsId) (name : Name) → IsCovered room g n h scope s done → MayClone g snap id name → StaysDone (cloned g snap id name) done more → IsCovered room (cloned g snap id name) h h scope s more
+
+-- a snapshot of a head is taken at h
+abbrev pub SnapshotLaw : Type 0
+SnapshotLaw = (room : Room) (g : Graph) (n h : ℕ) (scope : Scope) (s t : Phys) (done more : Piece → Bool) (head : Dataset) (id : DsId) (label : Name) → IsCovered room g n h scope s done → MaySnapshot g head id label h → Handled s (events.snapshot_taken head.id id) t → StaysDone (with_snapshot g head id label h) done more → IsCovered room (with_snapshot g head id label h) h h scope t more
+
+-- a dataset is destroyed: a head, or a snapshot with at most one child
+abbrev pub DestroyLaw : Type 0
+DestroyLaw = (room : Room) (g : Graph) (n h : ℕ) (scope : Scope) (s t : Phys) (done more : Piece → Bool) (gone : Dataset) (next : Option DsId) → IsCovered room g n h scope s done → MayDestroy g gone next → Handled s (events.destroyed gone.id next) t → StaysDone (destroyed g gone) done more → IsCovered room (destroyed g gone) h h scope t more
+
+-- two heads are swapped
+abbrev pub SwapLaw : Type 0
+SwapLaw = (room : Room) (g : Graph) (n h : ℕ) (scope : Scope) (s t : Phys) (done more : Piece → Bool) (a b : Dataset) → IsCovered room g n h scope s done → MaySwap g a b → Handled s (events.swapped a.id b.id) t → StaysDone (swapped g a b) done more → IsCovered room (swapped g a b) h h scope t more
+
+-- a device goes offline
+abbrev pub AwayLaw : Type 0
+AwayLaw = (room : Room) (g : Graph) (n h : ℕ) (scope : Scope) (s t : Phys) (done more : Piece → Bool) (dev : ℕ) → IsCovered room g n h scope s done → Handled s (events.went_away dev) t → StaysDone g done more → IsCovered room g n h scope t more
+
+-- blocks that were written in h are applied to a head
+abbrev pub ApplyLaw : Type 0
+ApplyLaw = (room : Room) (g : Graph) (n h : ℕ) (scope : Scope) (s : Phys) (done more : Piece → Bool) (head : Dataset) (changes : List (Key × Bp)) → IsCovered room g n h scope s done → MayApply room g head changes h → StaysDone (applied g head changes) done more → IsCovered room (applied g head changes) h h scope s more
+
+-- one turn of the walk, in a scan whose scope ends by h; what it puts is done
+abbrev pub TurnLaw : Type 0
+TurnLaw = (room : Room) (g : Graph) (n h : ℕ) (scope : Scope) (s t : Phys) (done more : Piece → Bool) (put : List Piece) → IsCovered room g n h scope s done → scope.max ≤ h → Turn g scope done s t put → StaysDone g done more → ((p : Piece) → Has put p → IsTrue (more p)) → IsCovered room g n h scope t more
