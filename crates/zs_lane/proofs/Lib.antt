@@ -1,0 +1,2 @@
+mod Keep
+mod Set
