@@ -1,0 +1,4 @@
+pub mod Bytes
+pub mod Staged
+pub mod Done
+pub mod Needed
