@@ -1,0 +1,27 @@
+-- A history goes on by one event.
+use Rattle.std.specs.Prelude.{◌≡◌, List, [], ◌∷◌, ◌++◌, refl}
+use Rattle.std.proofs.Common.{sym, ◌∙◌, ap, subst}
+use Rattle.zs_core.specs.declared.event.Event.{Event}
+use Rattle.zs_core.specs.Machine.{PoolState}
+use Rattle.zs_core.specs.Steps.{Steps, Begins}
+use Rattle.zs_core.specs.History.{Full, FullSteps, Run, IsHistory, kept_after}
+
+run_push : (s t u : Full) (es : List Event) (e : Event) → Run s es t → FullSteps t e u → Run s (es ++ e ∷ []) u
+run_push s t u [] e run step = (u, subst (λ (x : Full). FullSteps x e u) run step, refl)
+run_push s t u (d ∷ es) e run step = (run.0, run.1, run_push run.0 t u es e run.2 step)
+
+-- after one more step of the machine the history with the event is one
+pub history_on : (s t : PoolState) (es new : List Event) (e : Event) → new ≡ es ++ e ∷ [] → IsHistory es s → Steps s e t → IsHistory new t
+history_on s t es new e is h step = record {
+  first = h.first;
+  others = h.others ++ e ∷ [];
+  is = is ∙ ap (λ l. l ++ e ∷ []) h.is;
+  start = h.start;
+  begins = h.begins;
+  kept = kept_after e.step s h.kept;
+  run = run_push _ _ _ h.others e h.run (step, refl);
+}
+
+-- an event that was added to a list was added to an equal one
+pub event_added : (new kept old : List Event) (e : Event) → new ≡ kept ++ e ∷ [] → kept ≡ old → new ≡ old ++ e ∷ []
+event_added new kept old e added same = added ∙ ap (λ (l : List Event). l ++ e ∷ []) same

@@ -1,0 +1,11 @@
+pub mod Entries
+pub mod Staged
+pub mod Put
+pub mod Walks
+pub mod Checked
+pub mod Closing
+pub mod Adding
+pub mod Holding
+pub mod Judging
+pub mod Opening
+pub mod Histories

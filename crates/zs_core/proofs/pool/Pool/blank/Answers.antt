@@ -1,0 +1,21 @@
+-- The history begins with the pool's making.
+use Rattle.std.proofs.Common.{◌≡◌, ◌∙◌, ℕ, ap, refl, [], ◌++◌, ◌∷◌, ◌*◌, List, arith}
+use Rattle.zs_script.specs.declared.command.Command.TheVariants.{Pool}
+use Rattle.zs_script.specs.declared.reply.Reply.TheVariants as reply
+use Rattle.zs_core.specs.declared.event.Step.TheVariants as step
+use Rattle.zs_core.specs.Steps.{blank_state}
+use Rattle.zs_core.proofs.Histories.{event_added}
+use Rattle.zs_core.proofs.pool.Pool.blank.Goals as goal
+
+pub invariant_of-result : goal.invariant_of-result
+invariant_of-result c =
+    let one : c.args.shape.devices ≡ 1 * c.args.shape.width = let d = c.requires.devices in omega arith in
+    record {
+      first = record { by = 0; step = step.Made (Pool c.args.shape.pool c.args.shape.width c.args.shape.limit c.args.shape.every c.args.shape.blocks); reply = reply.Made c.args.shape.pool 1 };
+      others = [];
+      is = event_added _ _ [] _ c.note.ensures (c.in_ok-reserve.ensures.items ∙ c.new-history.ensures.items);
+      start = c.blank-present.result.state;
+      begins = (refl, c.blank-present.ensures.state ∙ ap blank_state one);
+      kept = c.blank-present.result.state;
+      run = refl;
+    }

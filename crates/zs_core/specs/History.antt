@@ -1,0 +1,41 @@
+-- Histories: which are runs of the machine, and what text they have.
+use Rattle.std.specs.Prelude.{◌≡◌, ℕ, List, [], ◌∷◌, flat_map}
+use Rattle.zs_script.specs.Texts.{reply_text}
+use Rattle.zs_core.specs.declared.event.Event.{Event}
+use Rattle.zs_core.specs.declared.event.Step.{Step}
+use Rattle.zs_core.specs.declared.event.Step.TheVariants as step
+use Rattle.zs_core.specs.Machine.{PoolState}
+use Rattle.zs_core.specs.Steps.{Begins, Steps}
+
+-- a pool's state and the part of it that is committed
+pub record Full : Type 0 where
+  pub now : PoolState
+  pub kept : PoolState
+
+-- what is committed after a step: at a commit the present state, and else what it was
+abbrev pub kept_after : Step → PoolState → PoolState → PoolState
+kept_after (step.Committed online) now kept = now
+kept_after _ now kept = kept
+
+-- one step of the state with its committed part
+abbrev pub FullSteps : Full → Event → Full → Type 0
+FullSteps s e t = Steps s.now e t.now × (t.kept ≡ kept_after e.step s.now s.kept)
+
+-- the events lead from one state to the other
+abbrev pub Run : Full → List Event → Full → Type 0
+Run s [] t = t ≡ s
+Run s (e ∷ es) t = (m : Full) × FullSteps s e m × Run m es t
+
+-- a history that begins with the making of a pool and leads to the state
+pub record IsHistory (es : List Event) (now : PoolState) : Type 0 where
+  pub first : Event
+  pub others : List Event
+  pub is : es ≡ first ∷ others
+  pub start : PoolState
+  pub begins : Begins first start
+  pub kept : PoolState
+  pub run : Run (record { now = start; kept = start }) others (record { now = now; kept = kept })
+
+-- the text of a history: those of its replies, one after another
+abbrev pub text_of : List Event → List ℕ
+text_of es = flat_map (λ e. reply_text e.by e.reply) es

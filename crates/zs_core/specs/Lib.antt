@@ -1,0 +1,10 @@
+pub mod Waiting
+pub mod Machine
+pub mod Replies
+pub mod Steps
+pub mod History
+pub mod View
+pub mod Kept
+pub mod Adding
+pub mod Reading
+pub mod Shapes

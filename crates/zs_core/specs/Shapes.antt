@@ -1,0 +1,36 @@
+-- The numbers that a pool is made with, and the commands that it takes.
+use Rattle.std.specs.Prelude.{◌≡◌, ℕ, ◌+◌, ◌*◌, ◌/◌, ◌%◌, ◌≤◌, ◌<◌, List, length, slice_index}
+use Rattle.zs_script.specs.declared.command.Command.{Command}
+use Rattle.zs_script.specs.declared.command.Command.TheVariants as command
+use Rattle.zs_script.specs.declared.reply.Reply.{Reply}
+use Rattle.zs_script.specs.declared.reply.Reply.TheVariants as reply
+use Rattle.zs_core.specs.declared.shape.Shape.{Shape}
+
+-- the first sector of the space: 8 sectors of labels and two records come before it
+abbrev pub data_start : ℕ → ℕ
+data_start blocks = 8 + 2 * (128 + blocks / 4)
+
+-- the numbers are in their ranges: one mirror, and for each device a size that suits the pool
+pub record IsShape (s : Shape) : Type 0 where
+  pub width : (1 ≤ s.width) × (s.width ≤ 4)
+  pub devices : s.devices ≡ s.width
+  pub blocks : (64 ≤ s.blocks) × (s.blocks ≤ 65536) × (s.blocks % 4 ≡ 0)
+  pub limit : (1 ≤ s.limit) × (s.limit ≤ 65536)
+  pub every : (1 ≤ s.every) × (s.every ≤ 1000)
+  pub count : length s.sectors ≡ s.devices
+  pub least : (k : ℕ) → k < length s.sectors → data_start s.blocks + 32 ≤ slice_index s.sectors k
+  pub most : (k : ℕ) → k < length s.sectors → slice_index s.sectors k ≤ 2097152
+
+-- the commands that stage a record or queue a task: a `make` of records up to the greatest size
+abbrev pub IsPoolCommand : Command → Type 0
+IsPoolCommand (command.Fs name) = Unit {0}
+IsPoolCommand command.Scrub = Unit {0}
+IsPoolCommand (command.Make ds object levels size fill) = size ≤ 131072
+IsPoolCommand _ = ⊥
+
+-- the reply has no list
+abbrev pub IsPlain : Reply → Type 0
+IsPlain (reply.Queued txg task) = Unit {0}
+IsPlain (reply.Wrote ds object leaf txg) = Unit {0}
+IsPlain (reply.Refused why) = Unit {0}
+IsPlain _ = ⊥

@@ -1,0 +1,285 @@
+-- The steps of the machine: which state an event leads to, and which replies it may have.
+use Rattle.std.specs.Prelude.{◌≡◌, ℕ, ◌+◌, ◌-◌, ◌*◌, ◌/◌, ◌^◌, ◌==◌, ◌<◌, unwrap_or, Bool, true, false, if◌then◌else◌, List, [], ◌∷◌, ◌++◌, length, min, filter, fold, map, Option, Some, None, is_some, ◌⊎◌, IsTrue}
+use Rattle.std.specs.Int.{from_be_bytes, w64}
+use Rattle.zs_ids.specs.declared.key.Key.{Key}
+use Rattle.zs_ids.specs.declared.block.Bp.{Bp}
+use Rattle.zs_ids.specs.declared.block.Piece.{Piece}
+use Rattle.zs_ids.specs.declared.block.Item.{Item}
+use Rattle.zs_ids.specs.declared.block.Place.{Place}
+use Rattle.zs_ids.specs.declared.dataset.DsId.{DsId}
+use Rattle.zs_ids.specs.declared.dataset.DsName.{DsName}
+use Rattle.zs_ids.specs.declared.dataset.Name.{Name}
+use Rattle.zs_ids.specs.declared.limits.TheConstants.{TXG_END}
+use Rattle.zs_ids.specs.Key.{root_key, dnode_key, record_key}
+use Rattle.zs_ids.specs.Blocks.{bp_at, replaced}
+use Rattle.zs_ids.specs.Graph.{Dataset, Graph, Has, IsHeldBy, IsLive, pieces_of}
+use Rattle.zs_sum.specs.Sum.{sha256}
+use Rattle.zs_objset.specs.declared.block.StagedBlock.{StagedBlock}
+use Rattle.zs_objset.specs.Staged.{AreBlocksOf, pointers_of}
+use Rattle.zs_txg.specs.declared.task.Task.{Task}
+use Rattle.zs_txg.specs.declared.task.Task.TheVariants as task
+use Rattle.zs_txg.specs.declared.staged.Staging.{Staging}
+use Rattle.zs_txg.specs.Txg.{Slot, staged_at, put_staged, staged_for, entry_of}
+use Rattle.zs_ledger.specs.declared.entry.Entry.{Entry}
+use Rattle.zs_ledger.specs.Entry.{has_error}
+use Rattle.zs_ledger.specs.Kept.{has_piece}
+use Rattle.zs_phys.specs.declared.scope.Kind.{Kind}
+use Rattle.zs_phys.specs.declared.scope.Kind.TheVariants as kind
+use Rattle.zs_phys.specs.declared.phys.Status.{Status}
+use Rattle.zs_phys.specs.declared.phys.Status.TheVariants as status
+use Rattle.zs_script.specs.declared.command.Command.{Command}
+use Rattle.zs_script.specs.declared.command.Command.TheVariants as command
+use Rattle.zs_script.specs.declared.refusal.Refusal.{Refusal}
+use Rattle.zs_script.specs.declared.refusal.Refusal.TheVariants as refusal
+use Rattle.zs_script.specs.declared.reply.Reply.{Reply}
+use Rattle.zs_script.specs.declared.reply.Reply.TheVariants as reply
+use Rattle.zs_script.specs.declared.reply.Finished.{Finished}
+use Rattle.zs_script.specs.declared.reply.ScanKind.{ScanKind}
+use Rattle.zs_script.specs.declared.reply.ScanKind.TheVariants as scan_kind
+use Rattle.zs_core.specs.declared.event.Stage.{Stage}
+use Rattle.zs_core.specs.declared.event.Stage.TheVariants as stage
+use Rattle.zs_core.specs.declared.event.ReadPlan.{ReadPlan}
+use Rattle.zs_core.specs.declared.event.ReadPlan.TheVariants as plan
+use Rattle.zs_core.specs.declared.event.Step.{Step}
+use Rattle.zs_core.specs.declared.event.Step.TheVariants as step
+use Rattle.zs_core.specs.declared.event.Event.{Event}
+use Rattle.zs_core.specs.Waiting.{item_of}
+use Rattle.zs_core.specs.declared.parts.OpenRead.{OpenRead}
+use Rattle.zs_core.specs.Machine.{PoolState, Txg, Data, ScanState, dataset_named, staged_record, is_running, is_born_in_scope}
+use Rattle.zs_core.specs.Replies.{task_reply, after_queued, make_refusal, read_refusal, task_answers, after_tasks}
+
+-- a transaction group in which nothing is staged or queued
+abbrev pub empty_txg : ℕ → Txg
+empty_txg t = record { txg = t; staged = []; tasks = [] }
+
+-- a block is staged for a dataset, at a place of any choice, unless one is staged at the key
+abbrev pub staged_once : List (Slot × Staging) → Slot → Place → List (Slot × Staging)
+staged_once staged slot place =
+    if is_some (staged_at staged slot)
+    then staged
+    else put_staged staged slot (record { place = place; sectors = 8; fill = None })
+
+-- record 0 of a new object is staged, with the blocks above it
+abbrev pub IsStagedWith : List (Slot × Staging) → DsId → ℕ → ℕ → ℕ → List (Slot × Staging) → Type 0
+IsStagedWith old ds object sectors fill new =
+    (root : Place) × (dnode : Place) × (place : Place)
+    × (new ≡ put_staged (staged_once (staged_once old (ds, root_key) root) (ds, dnode_key object) dnode) (ds, record_key object 0) (record { place = place; sectors = sectors; fill = Some fill }))
+
+-- a `make`: refused, or the record is staged. Whether there is space for it is left open
+abbrev pub MakeStep : PoolState → DsName → ℕ → ℕ → ℕ → Reply → PoolState → Type 0
+MakeStep s name object size fill answer t = refused (make_refusal s name object)
+  where
+    staged_in : Option Dataset → Type 0
+    staged_in None = ⊥
+    staged_in (Some d) =
+        (new : List (Slot × Staging)) × IsStagedWith s.open_txg.staged d.id object (size / 512) fill new
+        × (t ≡ record s { open_txg = record s.open_txg { staged = new } })
+        × (answer ≡ reply.Wrote name object 0 s.open_txg.txg)
+
+    refused : Option Refusal → Type 0
+    refused (Some why) = (answer ≡ reply.Refused why) × (t ≡ s)
+    refused None = ((answer ≡ reply.Refused refusal.NoSpace) × (t ≡ s)) ⊎ staged_in (dataset_named s.graph name)
+
+-- a line that queues a task
+abbrev pub TaskStep : PoolState → ℕ → Task → Reply → PoolState → Type 0
+TaskStep s by queued answer t = (answer ≡ task_reply s) × (t ≡ after_queued s by queued)
+
+-- a command that stages a record or queues a task
+abbrev pub CommandStep : PoolState → ℕ → Command → Reply → PoolState → Type 0
+CommandStep s by (command.Fs name) answer t = TaskStep s by (task.Fs name) answer t
+CommandStep s by command.Scrub answer t = TaskStep s by task.Scrub answer t
+CommandStep s by (command.Make ds object levels size fill) answer t = MakeStep s ds object size fill answer t
+CommandStep s by _ answer t = ⊥
+
+-- a line whose events stand before it: only a refused one has a reply of its own
+abbrev pub LineStep : PoolState → Command → Reply → Type 0
+LineStep s c reply.Nothing = Unit {0}
+LineStep s c (reply.Refused refusal.Suspended) = s.suspended ≡ true
+LineStep s command.Finish (reply.Refused refusal.NoScan) = is_running s.scan ≡ false
+LineStep s c _ = ⊥
+
+-- an entry may be added: its piece is live and in scope, it has the size and sum of a pointer to it, and the
+-- piece has none yet
+pub record MayBeChecked (s : PoolState) (e : Entry) : Type 0 where
+  pub holder : Dataset
+  pub is_dataset : Has s.graph holder
+  pub at : Key × Bp
+  pub is_entry : Has holder.entries at
+  pub is_piece : Has (pieces_of at.1) e.piece
+  pub size : e.sectors ≡ at.1.sectors
+  pub sum : e.sum ≡ at.1.sum
+  pub in_scope : is_born_in_scope s.scan e.piece.birth ≡ true
+  pub unchecked : has_piece s.scan.checked e.piece ≡ false
+
+-- the state with an entry more
+abbrev pub with_checked : PoolState → Entry → PoolState
+with_checked s e = record s { scan = record s.scan { checked = s.scan.checked ++ e ∷ [] } }
+
+-- entries are added one after another
+abbrev pub VerdictStep : PoolState → List Entry → PoolState → Type 0
+VerdictStep s [] t = t ≡ s
+VerdictStep s (e ∷ es) t = (is_running s.scan ≡ true) × MayBeChecked s e × VerdictStep (with_checked s e) es t
+
+-- the keys and pointers of the blocks that are staged for a dataset, over its entries
+pub record AreChanges (entries : List (Key × Bp)) (staged : List (Slot × Staging)) (txg : ℕ) (changes : List (Key × Bp)) : Type 0 where
+  pub blocks : List StagedBlock
+  pub made : AreBlocksOf (bp_at entries) txg (map entry_of staged) blocks
+  pub pointers : changes ≡ pointers_of blocks
+
+-- entries with others put over them
+abbrev pub all_replaced : List (Key × Bp) → List (Key × Bp) → List (Key × Bp)
+all_replaced entries changes = fold (λ m e. replaced m e.0 e.1) entries changes
+
+-- a dataset with the blocks that were staged for it put over its own
+pub record IsOverwritten (txg : ℕ) (staged : List (Slot × Staging)) (old new : Dataset) : Type 0 where
+  pub changes : List (Key × Bp)
+  pub are_changes : AreChanges old.entries staged txg changes
+  pub is : new ≡ record old { entries = all_replaced old.entries changes }
+
+-- a dataset for which nothing was staged stays, another is overwritten
+abbrev pub IsWritten : ℕ → List (Slot × Staging) → Dataset → Dataset → Type 0
+IsWritten txg [] old new = new ≡ old
+IsWritten txg (e ∷ es) old new = IsOverwritten txg (e ∷ es) old new
+
+-- each dataset is written
+abbrev pub AreWritten : Txg → Graph → Graph → Type 0
+AreWritten txg [] [] = Unit {0}
+AreWritten txg (d ∷ ds) (e ∷ es) = IsWritten txg.txg (staged_for txg.staged d.id) d e × AreWritten txg ds es
+AreWritten txg [] (e ∷ es) = ⊥
+AreWritten txg (d ∷ ds) [] = ⊥
+
+-- every live piece in the scan's scope is checked
+abbrev pub AllAreChecked : PoolState → Type 0
+AllAreChecked s = (p : Piece) → IsLive s.graph p → is_born_in_scope s.scan p.birth ≡ true → has_piece s.scan.checked p ≡ true
+
+-- the state after the tasks of a transaction group have run on the data
+abbrev pub after_data : PoolState → Txg → Data → PoolState
+after_data s txg d =
+    let e = after_tasks txg.txg d txg.tasks in
+    record s { graph = e.graph; next_id = e.next_id; scan = e.scan; applied = txg.txg; closed = None; stage = stage.Labelling; answers = task_answers txg.txg d txg.tasks }
+
+-- the scan comes to its end: it is running and not paused, and has checked all that it was to check
+pub record Finishes (s t : PoolState) : Type 0 where
+  pub running : is_running s.scan ≡ true
+  pub unpaused : s.scan.paused ≡ false
+  pub all : AllAreChecked s
+  pub finished : t ≡ record s { scan = record s.scan { status = status.Finished; saved = length s.scan.checked }; finished = true }
+
+-- the scan comes to its end, or not
+abbrev pub EndStep : PoolState → PoolState → Type 0
+EndStep s t = Finishes s t ⊎ (t ≡ record s { finished = false })
+
+-- the closed transaction group is applied: its blocks are put over the datasets' own, its tasks run in order,
+-- and the scan may come to its end
+pub record DataStep (s t : PoolState) : Type 0 where
+  pub txg : Txg
+  pub was_closed : s.closed ≡ Some txg
+  pub graph : Graph
+  pub written : AreWritten txg s.graph graph
+  pub ended : EndStep (after_data s txg (record { graph = graph; next_id = s.next_id; scan = s.scan })) t
+
+-- the word for a scan's kind
+abbrev pub kind_word : Kind → ScanKind
+kind_word kind.Resilver = scan_kind.Resilver
+kind_word _ = scan_kind.Scrub
+
+-- the line of a scan that came to its end: how many pieces it checked, and how many of them are damaged; the numbers
+-- stand still at their type's end
+abbrev pub finished_line : PoolState → Option Finished
+finished_line s =
+    if s.finished
+    then Some (record { kind = kind_word s.scan.kind; checked = min (length s.scan.checked) 4294967295; errors = min (length (filter has_error s.scan.checked)) 4294967295 })
+    else None
+
+-- the reply to a sync that was committed. The one that makes the pool has no text
+abbrev pub committed_reply : PoolState → Reply
+committed_reply s =
+    if s.applied == 1
+    then reply.Nothing
+    else reply.Committed s.applied s.answers (finished_line s)
+
+-- where the answer of a read comes from: the staged fill, else the dataset's pointer, else nowhere
+abbrev pub plan_from : Option Staging → Option Bp → ℕ → ReadPlan
+plan_from (Some e) bp online = plan.Staged (unwrap_or e.fill 0)
+plan_from None (Some bp) online = plan.Pinned (item_of bp) online
+plan_from None None online = plan.Hole
+
+-- where the answer of a read of a dataset comes from
+abbrev pub plan_in : PoolState → Dataset → ℕ → ℕ → ReadPlan
+plan_in s d object leaf = plan_from (staged_record s d.id (record_key object leaf)) (bp_at d.entries (record_key object leaf)) s.online
+
+-- a read begins: it is refused, or it is open with its plan
+abbrev pub ReadBeginStep : PoolState → ℕ → DsName → ℕ → ℕ → Option ReadPlan → Reply → PoolState → Type 0
+ReadBeginStep s by name object leaf planned answer t = refused (read_refusal s name object leaf)
+  where
+    planned_in : Option Dataset → Type 0
+    planned_in None = ⊥
+    planned_in (Some d) =
+        (planned ≡ Some (plan_in s d object leaf)) × (answer ≡ reply.Nothing)
+        × (t ≡ record s { reads = s.reads ++ record { by = by; ds = name; object = object; leaf = leaf; plan = plan_in s d object leaf } ∷ [] })
+
+    refused : Option Refusal → Type 0
+    refused (Some why) = (planned ≡ None) × (answer ≡ reply.Refused why) × (t ≡ s)
+    refused None = planned_in (dataset_named s.graph name)
+
+-- what an open read may be answered with: the staged fill, `hole`, or the first eight bytes of some bytes that
+-- hash to the piece's sum, unless no such bytes were found
+abbrev pub IsReadAnswer : OpenRead → ReadPlan → Reply → Type 0
+IsReadAnswer r (plan.Staged fill) answer = answer ≡ reply.Read r.ds r.object r.leaf fill
+IsReadAnswer r plan.Hole answer = answer ≡ reply.ReadHole r.ds r.object r.leaf
+IsReadAnswer r (plan.Pinned item online) answer =
+    ((bytes : List ℕ) × (sha256 bytes ≡ item.sum) × (answer ≡ reply.Read r.ds r.object r.leaf (from_be_bytes w64 bytes)))
+    ⊎ (answer ≡ reply.Refused refusal.ReadLost)
+
+-- an open read of the client with this plan ends
+pub record ReadEndStep (s : PoolState) (by : ℕ) (p : ReadPlan) (answer : Reply) (t : PoolState) : Type 0 where
+  pub before : List OpenRead
+  pub read : OpenRead
+  pub after : List OpenRead
+  pub open_reads : s.reads ≡ before ++ read ∷ after
+  pub client : read.by ≡ by
+  pub same_plan : read.plan ≡ p
+  pub answers : IsReadAnswer read p answer
+  pub closed : t ≡ record s { reads = before ++ after }
+
+-- no name
+abbrev pub no_name : Name
+no_name = record { len = 0; bytes = 0 ∷ 0 ∷ 0 ∷ 0 ∷ 0 ∷ 0 ∷ 0 ∷ 0 ∷ 0 ∷ 0 ∷ 0 ∷ 0 ∷ [] }
+
+-- no scan was started yet
+abbrev pub no_scan : ScanState
+no_scan = record { kind = kind.Idle; status = status.Never; paused = false; min = 0; max = 0; checked = []; saved = 0 }
+
+-- the pool of a `pool` line: the datasets are just the origin, and the empty transaction group 1 is closed
+abbrev pub origin : Dataset
+origin = record { id = record { 0 = 0 }; head = false; owner = no_name; label = no_name; parent = None; creation = 1; entries = [] }
+
+abbrev pub blank_state : ℕ → PoolState
+blank_state devices = record { graph = origin ∷ []; next_id = 1; applied = 0; online = 2 ^ devices - 1; open_txg = empty_txg 2; closed = Some (empty_txg 1); stage = stage.Writing; scan = no_scan; suspended = false; answers = []; finished = false; reads = [] }
+
+-- the event with which a pool's history begins, and the state that it leads to
+abbrev pub Begins : Event → PoolState → Type 0
+Begins e s = begins e.step e.reply
+  where
+    begins : Step → Reply → Type 0
+    begins (step.Made (command.Pool pool width limit every blocks)) (reply.Made made mirrors) = (made ≡ pool) × (s ≡ blank_state (mirrors * width))
+    begins _ _ = ⊥
+
+-- one step of the machine
+abbrev pub Steps : PoolState → Event → PoolState → Type 0
+Steps s e t = steps e.step e.reply
+  where
+    steps : Step → Reply → Type 0
+    steps (step.Command c) answer = CommandStep s e.by c answer t
+    steps (step.Line c) answer = LineStep s c answer × (t ≡ s)
+    steps (step.Hold number vdev online pieces) answer = (answer ≡ reply.Nothing) × (t ≡ s)
+    steps (step.Verdict number entries) answer = (answer ≡ reply.Nothing) × VerdictStep s entries t
+    steps step.BeginSync (reply.RefusedSync txg why) = (txg ≡ s.open_txg.txg) × (why ≡ refusal.TxgEnd) × (s.open_txg.txg ≡ TXG_END) × (t ≡ s)
+    steps step.BeginSync answer = (answer ≡ reply.Nothing) × (s.closed ≡ None) × (t ≡ record s { open_txg = empty_txg (s.open_txg.txg + 1); closed = Some s.open_txg; stage = stage.Writing })
+    steps (step.EndData online) answer = (answer ≡ reply.Nothing) × (online ≡ s.online) × DataStep s t
+    steps (step.Committed online) answer = (answer ≡ committed_reply s) × (online ≡ s.online) × (s.stage ≡ stage.Labelling) × (t ≡ record s { stage = stage.Between })
+    steps (step.Suspend online why) answer = (answer ≡ reply.Nothing) × (t.suspended ≡ true)
+    steps (step.ReadBegin (command.Read ds object leaf) planned) answer = ReadBeginStep s e.by ds object leaf planned answer t
+    steps (step.ReadBegin c planned) answer = ⊥
+    steps (step.ReadEnd p) answer = ReadEndStep s e.by p answer t
+    steps (step.Made c) answer = ⊥

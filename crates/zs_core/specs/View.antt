@@ -1,0 +1,92 @@
+-- What contracts see of a pool: the machine's state, and beside it what is waiting, in flight and handed out.
+use Rattle.std.specs.Prelude.{◌≡◌, ℕ, ◌+◌, ◌<◌, ◌≤◌, Bool, true, false, List, [], ◌∷◌, ◌++◌, map, Option, Some, None, ◌⊎◌}
+use Rattle.zs_ids.specs.declared.key.Key.{Key}
+use Rattle.zs_ids.specs.declared.block.Bp.{Bp}
+use Rattle.zs_ids.specs.declared.block.Item.{Item}
+use Rattle.zs_ids.specs.declared.dataset.DsId.{DsId}
+use Rattle.zs_ids.specs.Blocks.{bp_at}
+use Rattle.zs_ids.specs.Graph.{Dataset, Graph, Has}
+use Rattle.zs_txg.specs.Txg.{Open, entries_for}
+use Rattle.zs_objset.specs.declared.block.StagedBlock.{StagedBlock}
+use Rattle.zs_objset.specs.Staged.{AreBlocksOf}
+use Rattle.zs_ledger.specs.Kept.{has_piece}
+use Rattle.zs_core.specs.declared.parts.Head.{Head}
+use Rattle.zs_core.specs.declared.parts.Closed.{Closed}
+use Rattle.zs_core.specs.declared.parts.Flying.{Flying}
+use Rattle.zs_core.specs.declared.parts.Scan.{Scan}
+use Rattle.zs_core.specs.declared.event.Event.{Event}
+use Rattle.zs_core.specs.Waiting.{is_born_in, entries_from, item_of}
+use Rattle.zs_core.specs.Machine.{PoolState, Txg, Data, ScanState}
+use Rattle.zs_core.specs.Steps.{origin, no_name, AreChanges}
+
+-- the head as a dataset
+abbrev pub dataset_of : Head → Dataset
+dataset_of h = record { id = h.id; head = true; owner = h.name; label = no_name; parent = Some (record { 0 = 0 }); creation = 0; entries = h.map.map.entries }
+
+-- the datasets of a pool that has this head
+abbrev pub graph_of : Option Head → Graph
+graph_of None = origin ∷ []
+graph_of (Some h) = origin ∷ dataset_of h ∷ []
+
+-- the entries of the head
+abbrev pub entries_in : Option Head → List (Key × Bp)
+entries_in None = []
+entries_in (Some h) = h.map.map.entries
+
+-- the id that the next dataset gets
+abbrev pub next_id_of : Option Head → ℕ
+next_id_of None = 1
+next_id_of (Some h) = h.id.0 + 1
+
+-- the blocks that are staged for the head
+abbrev pub AreHeadsBlocks : Option Head → Open → List StagedBlock → Type 0
+AreHeadsBlocks None o blocks = blocks ≡ []
+AreHeadsBlocks (Some h) o blocks = AreBlocksOf (bp_at h.map.map.entries) o.txg (entries_for o.staged h.id) blocks
+
+-- a transaction group without the room that is reserved in it
+abbrev pub txg_of : Open → Txg
+txg_of o = record { txg = o.txg; staged = o.staged; tasks = o.tasks }
+
+abbrev pub closed_of : Option Closed → Option Txg
+closed_of None = None
+closed_of (Some c) = Some (txg_of c.txg)
+
+-- the scan as the machine has it
+abbrev pub scan_of : Scan → ScanState
+scan_of s = record { kind = s.kind; status = s.status; paused = false; min = s.min; max = s.max; checked = s.ledger.entries; saved = s.saved }
+
+-- a batch in flight: its number and its entries
+pub record Batched : Type 0 where
+  pub number : ℕ
+  pub entries : List (Key × Bp)
+
+abbrev pub batched_of : Flying → Batched
+batched_of f = record { number = f.number; entries = f.entries.items }
+
+-- what contracts see of the present state of a pool
+pub record CoreView : Type 0 where
+  -- the machine's state
+  pub state : PoolState
+  -- the live entries in the scan's scope that no batch has had yet, in order of key, and whether it was seen that
+  -- there are none
+  pub waiting : List (Key × Bp)
+  pub walked : Bool
+  -- the batch that has no verdict yet, and how many batches were taken
+  pub flight : Option Batched
+  pub batches : ℕ
+  -- the next sector to be handed out, and the first past the space
+  pub next_sector : ℕ
+  pub end_sector : ℕ
+
+-- what contracts see of a pool: its present state and its history
+pub record PoolView : Type 0 where
+  pub core : CoreView
+  pub history : List Event
+
+-- what tasks change, of a pool with this head and scan
+abbrev pub data_of : Option Head → Scan → Data
+data_of head scan = record { graph = graph_of head; next_id = next_id_of head; scan = scan_of scan }
+
+-- one event was added to a history
+abbrev pub Adds : List Event → List Event → Type 0
+Adds old new = (e : Event) × (new ≡ old ++ e ∷ [])

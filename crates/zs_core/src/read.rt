@@ -1,0 +1,208 @@
+//! Reads: where an answer comes from, and what is answered.
+
+ghost use Rattle.std.specs.Prelude.{◌≡◌, IfOk, OnErr, IfSome, IfNone, OnSome, ◌≤◌, true, length, ◌++◌, ◌∷◌, [], ℕ};
+ghost use Rattle.std.specs.Option.{option_copied};
+ghost use Rattle.std.specs.Int.{from_be_bytes, w64};
+ghost use Rattle.zs_ids.specs.Key.{record_key};
+ghost use Rattle.zs_ids.specs.Blocks.{bp_at};
+ghost use Rattle.zs_sum.specs.Sum.{sha256};
+ghost use Rattle.zs_core.specs.Machine.{staged_record};
+ghost use Rattle.zs_core.specs.Replies.{read_refusal};
+ghost use Rattle.zs_core.specs.Steps.{ReadBeginStep, ReadEndStep, IsReadAnswer, plan_from};
+ghost use Rattle.std.specs.Prelude.{Ok};
+ghost use Rattle.zs_core.specs.View.{dataset_of};
+ghost use Rattle.zs_script.specs.declared.refusal.Refusal.{Refusal};
+ghost use Rattle.zs_core.specs.Reading.{planned_of, begun_reply, IsGotFor, IsReadReply};
+
+use crate::event::ReadPlan;
+use crate::parts::{Head, OpenRead};
+use crate::present::Present;
+use crate::scan::item_of;
+use crate::staging::is_head_named;
+use std::alloc::AllocError;
+use zs_ids::{Blocks, DsId, DsName, Item, Key};
+use zs_script::{Refusal, Reply};
+
+/// How a read began.
+#[derive(Clone, Copy, Debug, PartialEq, Eq)]
+pub(crate) enum Begun {
+    /// It is open, with this plan.
+    Planned(ReadPlan),
+    /// It is refused.
+    Refused(Refusal),
+}
+
+/// The key of a record.
+fn key_of(object: u16, leaf: u32) -> Key
+    ensures { result ≡ record_key object leaf }
+{
+    Key {
+        object,
+        rank: 1,
+        leaf,
+        depth: 3,
+    }
+}
+
+impl Present {
+    /// Why a `read` is refused.
+    fn read_refusal(&self, ds: &DsName, object: u16, leaf: u32) -> Option<Refusal>
+        ensures { result ≡ read_refusal self.now.state ds.now object leaf }
+    {
+        if self.suspended {
+            return Some(Refusal::Suspended);
+        }
+        let Some(head) = &self.head else {
+            return Some(Refusal::NoDataset);
+        };
+        if !is_head_named(head, ds) {
+            return Some(Refusal::NoDataset);
+        }
+        if !self.has_object(head, object) {
+            return Some(Refusal::NoObject);
+        }
+        if leaf != 0 {
+            return Some(Refusal::PastEnd);
+        }
+        None
+    }
+
+    /// Where the answer of a read of the head comes from.
+    fn plan(&self, head: &Head, object: u16, leaf: u32) -> ReadPlan
+        ensures { result ≡ plan_from (staged_record self.now.state head.now.id (record_key object leaf)) (bp_at head.now.map.map.entries (record_key object leaf)) self.now.state.online }
+    {
+        if let Some(staging) = self.staging(head.id, key_of(object, leaf)) {
+            return ReadPlan::Staged(staging.fill.unwrap_or(0));
+        }
+        match head.map.get(key_of(object, leaf)) {
+            Some(bp) => ReadPlan::Pinned(item_of(&bp), self.online),
+            None => ReadPlan::Hole,
+        }
+    }
+
+    /// Begins a read. After want of memory nothing has changed.
+    pub(crate) fn read_begin(
+        &mut self,
+        by: u8,
+        ds: &DsName,
+        object: u16,
+        leaf: u32,
+    ) -> Result<Begun, AllocError>
+        ensures step { IfOk result (λ b. ReadBeginStep self.old.state by ds.now object leaf (planned_of b) (begun_reply b) self.new.state) }
+        ensures stage { self.new.state.stage ≡ self.old.state.stage }
+        ensures suspended { self.new.state.suspended ≡ self.old.state.suspended }
+        ensures refused { (why : Refusal) → result ≡ Ok (Begun.Refused why) → self.new ≡ self.old }
+        ensures rest { self.new ≡ record self.old { state = self.new.state } }
+        ensures err { OnErr result (self.new ≡ self.old) }
+    {
+        if let Some(refusal) = self.read_refusal(ds, object, leaf) {
+            return Ok(Begun::Refused(refusal));
+        }
+        let Some(head) = &self.head else {
+            return Ok(Begun::Refused(Refusal::NoDataset));
+        };
+        let plan = self.plan(head, object, leaf);
+        let read = OpenRead {
+            by,
+            ds: *ds,
+            object,
+            leaf,
+            plan,
+        };
+        self.reads.push(read)?;
+        Ok(Begun::Planned(plan))
+    }
+
+    /// Ends the read that was begun last, if it is the client's and has this plan, and answers its reply: the staged
+    /// fill, `hole`, or the first eight bytes of those that were got, which hash to the piece's sum; where none were
+    /// got, that they are lost.
+    pub(crate) fn read_end(&mut self, by: u8, plan: &ReadPlan, got: Option<&[u8]>) -> Option<Reply>
+        requires { IsGotFor plan.now (option_copied got) }
+        ensures step { IfSome result (λ answer. ReadEndStep self.old.state by plan.now answer self.new.state) }
+        ensures stage { self.new.state.stage ≡ self.old.state.stage }
+        ensures suspended { self.new.state.suspended ≡ self.old.state.suspended }
+        ensures rest { self.new ≡ record self.old { state = self.new.state } }
+        ensures none { IfNone result (self.new ≡ self.old) }
+        ensures answer { IfSome result IsReadReply }
+    {
+        let Some(read) = self.reads.pop() else {
+            return None;
+        };
+        if read.by != by || !is_same_plan(&read.plan, plan) {
+            self.reads.push_reserved(read);
+            return None;
+        }
+        Some(answer_of(&read, got))
+    }
+}
+
+/// Whether the two items are one.
+fn is_same_item(a: &Item, b: &Item) -> bool
+    ensures { result ≡ true → a.now ≡ b.now }
+{
+    a.piece.place.vdev == b.piece.place.vdev
+        && a.piece.place.sector == b.piece.place.sector
+        && a.piece.birth == b.piece.birth
+        && a.sectors == b.sectors
+        && a.sum == b.sum
+}
+
+/// Whether the two plans are one.
+fn is_same_plan(a: &ReadPlan, b: &ReadPlan) -> bool
+    ensures { result ≡ true → a.now ≡ b.now }
+{
+    match a {
+        ReadPlan::Staged(fill) => match b {
+            ReadPlan::Staged(other) => fill == other,
+            _ => false,
+        },
+        ReadPlan::Hole => match b {
+            ReadPlan::Hole => true,
+            _ => false,
+        },
+        ReadPlan::Pinned(item, online) => match b {
+            ReadPlan::Pinned(other, mask) => online == mask && is_same_item(item, other),
+            _ => false,
+        },
+    }
+}
+
+/// The number that the first eight bytes spell, the most significant first.
+fn number_of(bytes: &[u8]) -> u64
+    requires { 8 ≤ length bytes.now }
+    ensures { result ≡ from_be_bytes w64 bytes.now }
+{
+    let eight = [
+        bytes[0], bytes[1], bytes[2], bytes[3], bytes[4], bytes[5], bytes[6], bytes[7],
+    ];
+    u64::from_be_bytes(eight)
+}
+
+/// The reply to an open read.
+fn answer_of(read: &OpenRead, got: Option<&[u8]>) -> Reply
+    requires { IsGotFor read.now.plan (option_copied got) }
+    ensures answer { IsReadAnswer read.now read.now.plan result }
+    ensures plain { IsReadReply result }
+{
+    let ds = read.ds;
+    let object = read.object;
+    let leaf = read.leaf;
+    match read.plan {
+        ReadPlan::Staged(value) => Reply::Read {
+            ds,
+            object,
+            leaf,
+            value,
+        },
+        ReadPlan::Hole => Reply::ReadHole { ds, object, leaf },
+        ReadPlan::Pinned(_, _) => match got {
+            Some(bytes) => Reply::Read {
+                ds,
+                object,
+                leaf,
+                value: number_of(bytes),
+            },
+            None => Reply::Refused(Refusal::ReadLost),
+        },
+    }
+}

@@ -1,0 +1,199 @@
+//! Staging a new object's record.
+
+ghost use Rattle.std.specs.Prelude.{nat_le, ◌≡◌, ◌<◌, ◌≤◌, ◌+◌, ◌/◌, ◌-◌, ◌%◌, ◌^◌, None, Some, true, false, IfOk, OnOk, OnErr, IsErrOf, ◌↔◌, is_some, if◌then◌else◌, option_map};
+ghost use Rattle.zs_ids.specs.Key.{root_key, dnode_key, record_key};
+ghost use Rattle.zs_txg.specs.Txg.{staged_at, put_staged};
+ghost use Rattle.zs_core.specs.Machine.{is_named, has_object, staged_record};
+ghost use Rattle.zs_core.specs.Replies.{make_refusal};
+ghost use Rattle.zs_core.specs.Steps.{MakeStep, IsStagedWith, staged_once};
+ghost use Rattle.zs_core.specs.Shapes.{IsPlain};
+ghost use Rattle.zs_core.specs.View.{dataset_of};
+ghost use Rattle.zs_core.specs.Kept.{sectors_to_make, IsFullExactly};
+
+use crate::parts::Head;
+use crate::present::Present;
+use std::alloc::AllocError;
+use zs_ids::limits::TXG_END;
+use zs_ids::{Blocks, DsId, DsName, Key, Name, Place};
+use zs_script::{Refusal, Reply};
+use zs_txg::{OpenTxg, Staging};
+
+/// The sectors of a block of pointers.
+const POINTERS: u16 = 8;
+
+/// The key of record 0 of an object.
+pub(crate) fn record_key(object: u16) -> Key
+    ensures { result ≡ record_key object 0 }
+{
+    Key {
+        object,
+        rank: 1,
+        leaf: 0,
+        depth: 3,
+    }
+}
+
+/// The key of the block with an object's dnode.
+fn dnode_key(object: u16) -> Key
+    ensures { result ≡ dnode_key object }
+{
+    Key {
+        object: object - object % 32,
+        rank: 0,
+        leaf: 0,
+        depth: 1,
+    }
+}
+
+/// Whether this is the head's name.
+pub(crate) fn is_head_named(head: &Head, ds: &DsName) -> bool
+    requires { 0 < head.now.id.0 }
+    ensures { result ≡ is_named ds.now (dataset_of head.now) }
+{
+    head.name == ds.owner && Name::EMPTY == ds.label
+}
+
+/// Stages a block of pointers at the next sector, unless one is staged at the key.
+fn stage_once(open: &mut OpenTxg, ds: DsId, key: Key, sector: u32) -> u32
+    requires room { 1 ≤ open.old.room }
+    requires fits { sector + 8 < 2 ^ 32 }
+    ensures staged { open.new ≡ record open.old { staged = staged_once open.old.staged (ds, key) (record { vdev = 0; sector = sector }); room = open.new.room } }
+    ensures room { open.old.room ≤ open.new.room + 1 }
+    ensures next { result ≡ (if is_some (staged_at open.old.staged (ds, key)) then sector else sector + 8) }
+{
+    if open.get(ds, key).is_some() {
+        return sector;
+    }
+    let place = Place { vdev: 0, sector };
+    if open.stage(ds, key, place, POINTERS, None).is_err() {
+        unreachable!();
+    }
+    sector + 8
+}
+
+impl Present {
+    /// Whether the head has the object: its record 0 is mapped or staged.
+    pub(crate) fn has_object(&self, head: &Head, object: u16) -> bool
+        ensures { result ≡ has_object self.now.state (dataset_of head.now) object }
+    {
+        self.staging(head.id, record_key(object)).is_some()
+            || head.map.get(record_key(object)).is_some()
+    }
+
+    /// What is staged for a dataset at a key.
+    pub(crate) fn staging(&self, ds: DsId, key: Key) -> Option<Staging>
+        ensures { result ≡ staged_record self.now.state ds key }
+    {
+        if let Some(staging) = self.open.get(ds, key) {
+            return Some(staging);
+        }
+        match &self.closed {
+            Some(closed) => closed.txg.get(ds, key),
+            None => None,
+        }
+    }
+
+    /// Why a `make` is refused, but for want of space.
+    fn make_refusal(&self, ds: &DsName, object: u16) -> Option<Refusal>
+        ensures { result ≡ make_refusal self.now.state ds.now object }
+    {
+        if self.suspended {
+            return Some(Refusal::Suspended);
+        }
+        let Some(head) = &self.head else {
+            return Some(Refusal::NoDataset);
+        };
+        if !is_head_named(head, ds) {
+            return Some(Refusal::NoDataset);
+        }
+        if self.has_object(head, object) {
+            return Some(Refusal::ObjectThere);
+        }
+        if self.open.txg() == TXG_END {
+            return Some(Refusal::TxgEnd);
+        }
+        None
+    }
+
+    /// Stages record 0 of a new object in the head of that name.
+    pub(crate) fn make(
+        &mut self,
+        ds: &DsName,
+        object: u16,
+        size: u32,
+        fill: u64,
+    ) -> Result<Reply, AllocError>
+        requires { size ≤ 131072 }
+        ensures step { IfOk result (λ answer. MakeStep self.old.state ds.now object size fill answer self.new.state) }
+        ensures plain { IfOk result IsPlain }
+        ensures stage { self.new.state.stage ≡ self.old.state.stage }
+        ensures suspended { self.new.state.suspended ≡ self.old.state.suspended }
+        ensures space { IfOk result (λ answer. IsFullExactly self.old ds.now object (size / 512) answer) }
+        ensures rest { OnOk result (self.new ≡ record self.old { state = self.new.state; next_sector = self.new.next_sector }) }
+        ensures err { OnErr result (self.new ≡ self.old) }
+    {
+        if let Some(refusal) = self.make_refusal(ds, object) {
+            return Ok(Reply::Refused(refusal));
+        }
+        let Some(head) = &self.head else {
+            return Ok(Reply::Refused(Refusal::NoDataset));
+        };
+        let id = head.id;
+        let sectors = (size / 512) as u16;
+        let needed = sectors_needed(&self.open, id, object, sectors);
+        if self.next_sector + needed > self.end_sector {
+            return Ok(Reply::Refused(Refusal::NoSpace));
+        }
+        stage_all(&mut self.open, id, object, sectors, fill, self.next_sector)?;
+        self.next_sector += needed;
+        Ok(Reply::Wrote {
+            ds: *ds,
+            object,
+            leaf: 0,
+            txg: self.open.txg(),
+        })
+    }
+}
+
+/// How many sectors a record needs with the blocks above it that are not staged yet.
+fn sectors_needed(open: &OpenTxg, ds: DsId, object: u16, sectors: u16) -> u32
+    ensures needed { result ≡ sectors_to_make open.now.staged ds object sectors }
+    ensures few { result ≤ 65551 }
+{
+    let root: u32 = if open.get(ds, Key::ROOT).is_some() {
+        0
+    } else {
+        8
+    };
+    let dnode: u32 = if open.get(ds, dnode_key(object)).is_some() {
+        0
+    } else {
+        8
+    };
+    root + dnode + u32::from(sectors)
+}
+
+/// Stages record 0 of a new object, with the blocks above it that are not staged yet, from a sector on.
+fn stage_all(
+    open: &mut OpenTxg,
+    ds: DsId,
+    object: u16,
+    sectors: u16,
+    fill: u64,
+    sector: u32,
+) -> Result<(), AllocError>
+    requires { sector + 16 < 2 ^ 32 }
+    ensures kept { open.new ≡ record open.old { staged = open.new.staged; room = open.new.room } }
+    ensures staged { OnOk result (IsStagedWith open.old.staged ds object sectors fill open.new.staged) }
+    ensures err { OnErr result (open.new.staged ≡ open.old.staged) }
+{
+    open.reserve(3)?;
+    let next = stage_once(open, ds, Key::ROOT, sector);
+    let sector = stage_once(open, ds, dnode_key(object), next);
+    let place = Place { vdev: 0, sector };
+    let record = record_key(object);
+    if open.stage(ds, record, place, sectors, Some(fill)).is_err() {
+        unreachable!();
+    }
+    Ok(())
+}
