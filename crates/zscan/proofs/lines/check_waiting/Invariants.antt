@@ -1,0 +1,14 @@
+use Rattle.std.proofs.Common.{◌≡◌, map, length}
+use Rattle.zscan.specs.Session.{IsReady, GoesOn}
+use Rattle.zscan.proofs.lines.check_waiting.Given as goal
+
+abbrev pub invariant-loop-fault : goal.invariant-loop-fault
+invariant-loop-fault g l = record {
+  ready : IsReady l.pool;
+  goes_on : GoesOn l.initial.pool.history l.pool.history;
+  sizes : map g.D.Device.size l.devices ≡ map g.D.Device.size l.initial.devices;
+  counts : map g.D.Device.faults l.devices ≡ map g.D.Device.faults l.initial.devices;
+}
+
+abbrev pub decreases-loop-fault : goal.decreases-loop-fault
+decreases-loop-fault g l = length l.pool.core.waiting

@@ -1,0 +1,13 @@
+use Rattle.std.proofs.Common.{◌≡◌, ◌++◌, map, option_map}
+use Rattle.zs_core.specs.History.{text_of}
+use Rattle.zscan.specs.Session.{IsReady}
+use Rattle.zscan.proofs.session.run_lines.Given as goal
+
+abbrev pub invariant-loop-line : goal.invariant-loop-line
+invariant-loop-line g l = record {
+  ready : IsReady l.pool;
+  told : g.K.Sink.told l.out ≡ option_map (λ b. b ++ text_of l.pool.history) (g.K.Sink.told l.fn.out);
+  sizes : map g.D.Device.size l.devices ≡ map g.D.Device.size l.fn.devices;
+  counts : map g.D.Device.faults l.devices ≡ map g.D.Device.faults l.fn.devices;
+  faults : g.K.Sink.faults l.out ≡ g.K.Sink.faults l.fn.out;
+}

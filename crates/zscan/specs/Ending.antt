@@ -1,0 +1,18 @@
+-- How a session ends.
+use Rattle.std.specs.Prelude.{◌≡◌, ◌⊎◌, ℕ, List, [], Option, Some, None}
+use Rattle.zs_core.specs.declared.event.Event.{Event}
+use Rattle.zscan.specs.declared.session.Session.{Session}
+
+-- a status with which a session ends
+abbrev pub IsSessionStatus : ℕ → Type 0
+IsSessionStatus status = (status ≡ 0) ⊎ ((status ≡ 3) ⊎ ((status ≡ 4) ⊎ ((status ≡ 6) ⊎ (status ≡ 7))))
+
+-- the history of the session, if there is one
+abbrev pub history_in : {D : Type 0} → Option (Session D) → List Event
+history_in None = []
+history_in (Some s) = s.pool.history
+
+-- the devices of the session, or else those that were fetched
+abbrev pub devices_in : {D : Type 0} → Option (Session D) → List D → List D
+devices_in None fetched = fetched
+devices_in (Some s) fetched = s.devices.items

@@ -1,0 +1,46 @@
+//! The program `zscan`: a pool of mirrored devices in image files, and scrubs of what it holds.
+//!
+//! Layer: the top; it stands on all others.
+//! Model: a run of the program is a history of events, which is a run of the abstract machine of `zs_core`. What was
+//! put into the sink is the text of that history.
+//! Promise: the clauses of `step::run_step`, one for each way in which a run can end. `main` gives it the real
+//! outside: standard input and output, and image files, which tell nothing of what they hold (`files`).
+//!
+//! Where to change what: a new form of the command line in `step`; what a line does in `lines`; how the images
+//! of a pool are tested in `images`; what is read, checked and written on the devices in `mirror`.
+#![tactic(auto)]
+
+mod files;
+mod images;
+mod lines;
+mod mirror;
+mod session;
+mod step;
+mod stop;
+
+use files::{ImageFiles, Input, Output};
+use std::alloc::AllocError;
+use std::env;
+use std::process::ExitCode;
+
+fn main(rt: HostRuntime) -> ExitCode {
+    let Ok(words) = words(&rt) else {
+        return ExitCode::from(7);
+    };
+    let mut src = Input::new(rt.stdin());
+    let mut out = Output::new(rt.stdout());
+    let mut bay = ImageFiles::new(rt);
+    let ended = step::run_step(rt.alloc(), words.as_slice(), &mut bay, &mut src, &mut out);
+    ExitCode::from(ended.status)
+}
+
+/// The words of the command line behind the program's name.
+fn words(rt: &HostRuntime) -> Result<Vec<String>, AllocError> {
+    let mut words = Vec::new(rt.alloc());
+    if let Ok(args) = env::args(rt) {
+        for word in args.skip(1) {
+            words.push(word)?;
+        }
+    }
+    Ok(words)
+}

@@ -1,0 +1,180 @@
+//! The top call: a script from a source, run over the images of a bay, with its replies put into a sink.
+
+ghost use Rattle.std.specs.Prelude.{◌≡◌, ◌≢◌, ◌≤◌, ◌<◌, ◌+◌, ◌-◌, ◌++◌, [], ◌⊎◌, ℕ, List, Option, None, Some, true, false, length, map, drop, take, option_map, OnOk, OnErr, IfOk, IfSome, IfNone, IsSome, IsErrOf, string_bytes};
+ghost use Rattle.std.specs.List.{list_all};
+ghost use Rattle.zs_core.specs.History.{text_of, IsHistory};
+ghost use Rattle.zs_io.specs.Faults.{Rose};
+ghost use Rattle.zs_io.specs.Told.{Told};
+ghost use Rattle.zscan.specs.Images.{AreFresh, HasFailed};
+ghost use Rattle.zscan.specs.Session.{AreFitFor, AreUnfitFor};
+ghost use Rattle.zscan.specs.Ending.{IsSessionStatus, history_in, devices_in};
+ghost use Rattle.zscan.specs.Step.{is_image, are_images, is_step, read_of, has_fault, lines_in};
+
+use crate::images::fetch_images;
+use crate::session::{Ended, end_with, step_session};
+use std::alloc::Global;
+use zs_io::{Bay, BayFault, Sink, Source};
+use zs_script::{ScriptFault, parse};
+
+/// One more than the most bytes of a script.
+const READ_BYTES: usize = 16_777_217;
+
+/// How many bytes of a script are read at once.
+const CHUNK: usize = 65_536;
+
+/// The most images of a pool.
+const IMAGES: usize = 16;
+
+/// Why a script was not read.
+#[derive(Clone, Copy, Debug, PartialEq, Eq)]
+pub enum ReadFault {
+    /// The source failed; its count of faults rose.
+    Failed,
+    /// Memory was wanting.
+    Memory,
+}
+
+/// Whether a word may name an image.
+fn is_image(word: &String) -> bool
+    ensures { result ≡ is_image (string_bytes word.now) }
+{
+    match word.as_bytes() {
+        [] => false,
+        [first, ..] => *first != b'-',
+    }
+}
+
+/// Whether the words are `step` and one to sixteen images.
+#[tactic(auto, unfolding(crate::specs::Step::is_step))]
+fn is_step(words: &[String]) -> bool
+    ensures form { result ≡ is_step words.now }
+    ensures some { result ≡ true → 1 ≤ length words.now }
+{
+    match words {
+        [] => false,
+        [verb, images @ ..] => verb.as_bytes() == b"step".as_slice() && are_images(images),
+    }
+}
+
+/// Whether the words are one to sixteen images.
+fn are_images(words: &[String]) -> bool
+    ensures { result ≡ are_images words.now }
+{
+    if words.len() < 1 {
+        return false;
+    }
+    if words.len() > IMAGES {
+        return false;
+    }
+    may_be_images(words)
+}
+
+/// Whether each of the words may name an image.
+fn may_be_images(words: &[String]) -> bool
+    ensures { result ≡ list_all (λ w. is_image (string_bytes w)) words.now }
+{
+    words.iter().all(|word| is_image(word))
+}
+
+/// Reads a script to its end, but no more than one byte past the most that a script may have.
+fn read_script<S: Source>(alloc: Global, src: &mut S) -> Result<Vec<u8>, ReadFault>
+    ensures script { IfOk result (λ v. Told (S.left src.old) (λ script. v.items ≡ read_of script)) }
+    ensures ok { OnOk result (S.faults src.new ≡ S.faults src.old) }
+    ensures failed { IsErrOf result ReadFault.Failed → Rose (S.faults src.old) (S.faults src.new) }
+    ensures memory { IsErrOf result ReadFault.Memory → S.faults src.new ≡ S.faults src.old }
+{
+    let Ok(mut chunk) = vec![in alloc; 0; CHUNK] else {
+        return Err(ReadFault::Memory);
+    };
+    let mut script = Vec::new(alloc);
+    match read_into(&mut script, src, &mut chunk) {
+        Ok(()) => Ok(script),
+        Err(fault) => Err(fault),
+    }
+}
+
+/// Reads to the end of the source, or until there are as many bytes as are read of a script.
+fn read_into<S: Source>(
+    script: &mut Vec<u8>,
+    src: &mut S,
+    chunk: &mut [u8],
+) -> Result<(), ReadFault>
+    requires empty { script.old.items ≡ [] }
+    requires chunk { length chunk.old ≡ 65536 }
+    ensures script { OnOk result (Told (S.left src.old) (λ left. script.new.items ≡ read_of left)) }
+    ensures ok { OnOk result (S.faults src.new ≡ S.faults src.old) }
+    ensures failed { IsErrOf result ReadFault.Failed → Rose (S.faults src.old) (S.faults src.new) }
+    ensures memory { IsErrOf result ReadFault.Memory → S.faults src.new ≡ S.faults src.old }
+{
+    while script.len() < READ_BYTES {
+        let room = CHUNK.min(READ_BYTES - script.len());
+        let Ok(count) = src.read(&mut chunk[..room]) else {
+            return Err(ReadFault::Failed);
+        };
+        if count == 0 {
+            return Ok(());
+        }
+        let Ok(()) = script.extend_from_slice(&chunk[..count]) else {
+            return Err(ReadFault::Memory);
+        };
+    }
+    Ok(())
+}
+
+/// Runs the program on the words of its command line, which are `step` and the names of one to sixteen images, in
+/// order. The script is read whole from the source, before the images are fetched from the bay; its replies are
+/// put into the sink.
+///
+/// The status is 0 where the script was read to its end and every reply was put; 1 where the words are others,
+/// and `usage` is put; 2 where the script has a fault, which is put; 3 where `pool` refused the images, which
+/// is put; 4 where a device or the bay failed; 5 where the source failed; 6 where the sink failed; 7 where
+/// memory was wanting.
+pub fn run_step<B: Bay, S: Source, K: Sink>(
+    alloc: Global,
+    words: &[String],
+    bay: &mut B,
+    src: &mut S,
+    out: &mut K,
+) -> Ended<B::Dev>
+    ensures usage_only { result.status ≡ 1 → is_step words.now ≡ false }
+    ensures usage { is_step words.now ≡ false → (result.status ≡ 1) ⊎ (result.status ≡ 6) }
+    ensures fault_only { result.status ≡ 2 → Told (S.left src.old) (λ script. has_fault script ≡ true) }
+    ensures no_fault { (result.status ≡ 0) ⊎ ((result.status ≡ 3) ⊎ (result.status ≡ 4)) → Told (S.left src.old) (λ script. has_fault script ≡ false) }
+    ensures unfit_only { result.status ≡ 3 → Told (S.left src.old) (λ script. AreUnfitFor (lines_in script) (map B.Dev.size result.devices.items) (map B.Dev.told result.devices.items)) }
+    ensures fit { result.status ≡ 0 → Told (S.left src.old) (λ script. Told (B.left bay.old) (λ images. AreFitFor (lines_in script) (map B.Dev.size (take (length words.now - 1) images)) (map B.Dev.told (take (length words.now - 1) images)))) }
+    ensures failed { result.status ≡ 4 → Rose (B.faults bay.old) (B.faults bay.new) ⊎ HasFailed (map B.Dev.faults (devices_in result.session result.devices.items)) }
+    ensures unfailed { result.status ≢ 4 → B.faults bay.new ≡ B.faults bay.old }
+    ensures devices_unfailed { result.status ≢ 4 → result.status ≢ 6 → result.status ≢ 7 → AreFresh (map B.Dev.faults (devices_in result.session result.devices.items)) }
+    ensures source { result.status ≡ 5 → Rose (S.faults src.old) (S.faults src.new) }
+    ensures source_kept { result.status ≢ 5 → S.faults src.new ≡ S.faults src.old }
+    ensures sink { result.status ≡ 6 → Rose (K.faults out.old) (K.faults out.new) }
+    ensures sink_kept { result.status ≢ 6 → K.faults out.new ≡ K.faults out.old }
+    ensures text { result.status ≡ 0 → K.told out.new ≡ option_map (λ bytes. bytes ++ text_of (history_in result.session)) (K.told out.old) }
+    ensures session { result.status ≡ 0 → IsSome result.session }
+    ensures history { IfSome result.session (λ s. IsHistory s.pool.history s.pool.core.state) }
+{
+    let mut devices = Vec::new(alloc);
+    if !is_step(words) {
+        return end_with(1, b"usage\n", devices, out);
+    }
+    let script = match read_script(alloc, src) {
+        Ok(script) => script,
+        Err(ReadFault::Failed) => return Ended::without(5, devices),
+        Err(ReadFault::Memory) => return Ended::without(7, devices),
+    };
+    let lines = match parse(alloc, script.as_slice()) {
+        Ok(lines) => lines,
+        Err(ScriptFault::Bad { line, why }) => {
+            let Ok(text) = format!(in alloc; "script {line} {}\n", why.name()) else {
+                return Ended::without(7, devices);
+            };
+            return end_with(2, text.as_bytes(), devices, out);
+        }
+        Err(ScriptFault::Memory) => return Ended::without(7, devices),
+    };
+    match fetch_images(&words[1..], bay, &mut devices) {
+        Ok(()) => step_session(alloc, lines.as_slice(), devices, out),
+        Err(BayFault::Failed) => Ended::without(4, devices),
+        Err(BayFault::Memory) => Ended::without(7, devices),
+    }
+}
