@@ -16,3 +16,6 @@ pub mod dirt;
 mod steps;
 
 pub use dirt::Dirt;
+
+#[cfg(test)]
+mod tests;
