@@ -24,8 +24,8 @@ pub struct PlainQueue {
 impl PlainQueue {
     /// An empty queue for at most `limit` items. Takes no memory.
     pub fn new(alloc: Global, limit: u32) -> Self
-        ensures items { result.map.entries ≡ [] }
-        ensures limit { result.limit ≡ limit }
+        ensures items { ⟦<PlainQueue as Waiting>⟧.items result ≡ [] }
+        ensures limit { ⟦<PlainQueue as Waiting>⟧.limit_of result ≡ limit }
     {
         PlainQueue {
             map: BTreeMap::new(alloc),
