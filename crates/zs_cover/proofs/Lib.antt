@@ -21,3 +21,5 @@ pub mod Drops
 pub mod SwapTree
 pub mod Swaps
 pub mod Climbs
+pub mod Starts
+pub mod Rests

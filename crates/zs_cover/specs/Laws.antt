@@ -1,6 +1,6 @@
 -- The laws of coverage: each event, with its change of the graph and of the scan state, and each turn of the walk,
--- keeps a graph valid, a state sound, and the state with what was examined covering.
-use Rattle.std.specs.Prelude.{◌≡◌, ◌≤◌, ℕ, Bool, List, Option, IsTrue}
+-- keeps a graph valid, a state sound, and the state with what was examined covering. A scan starts so, and may finish.
+use Rattle.std.specs.Prelude.{◌≡◌, ◌≢◌, ◌≤◌, ◌+◌, ℕ, Bool, false, List, [], Option, IsTrue}
 use Rattle.zs_ids.specs.declared.key.Key.{Key}
 use Rattle.zs_ids.specs.declared.block.Bp.{Bp}
 use Rattle.zs_ids.specs.declared.block.Piece.{Piece}
@@ -10,10 +10,15 @@ use Rattle.zs_ids.specs.Graph.{Has, Dataset, Graph, IsLive}
 use Rattle.zs_ids.specs.GraphTree.{IsHomeOf}
 use Rattle.zs_ids.specs.GraphValid.{Room, Valid, origin}
 use Rattle.zs_ids.specs.GraphChange.{cloned, with_fs, with_snapshot, destroyed, swapped, applied, MayClone, MaySnapshot, MayDestroy, MaySwap, MayApply}
+use Rattle.zs_ranges.specs.declared.set.Interval.{Interval}
 use Rattle.zs_phys.specs.declared.scope.Scope.{Scope}
+use Rattle.zs_phys.specs.declared.scope.Kind.TheVariants.{Idle, Resilver}
 use Rattle.zs_phys.specs.declared.phys.Phys.{Phys}
-use Rattle.zs_phys.specs.Ahead.{Covers}
-use Rattle.zs_phys.specs.Sound.{Sound}
+use Rattle.zs_phys.specs.declared.phys.At.TheVariants.{Nowhere}
+use Rattle.zs_phys.specs.declared.phys.Status.TheVariants.{Scanning, Finished}
+use Rattle.zs_phys.specs.Scope.{in_scope}
+use Rattle.zs_phys.specs.Ahead.{Covers, claims}
+use Rattle.zs_phys.specs.Sound.{Sound, IsAtRest, first_todo}
 use Rattle.zs_phys.specs.Handlers.{Handled, Event as events}
 use Rattle.zs_phys.specs.Turn.{Turn}
 
@@ -64,3 +69,30 @@ ApplyLaw = (room : Room) (g : Graph) (n h : ℕ) (scope : Scope) (s : Phys) (don
 -- one turn of the walk, in a scan whose scope ends by h; what it puts is done
 abbrev pub TurnLaw : Type 0
 TurnLaw = (room : Room) (g : Graph) (n h : ℕ) (scope : Scope) (s t : Phys) (done more : Piece → Bool) (put : List Piece) → IsCovered room g n h scope s done → scope.max ≤ h → Turn g scope done s t put → StaysDone g done more → ((p : Piece) → Has put p → IsTrue (more p)) → IsCovered room g n h scope t more
+
+-- a scan of this scope may start at h: it is a scrub or a resilver, its scope ends by the next transaction group, and
+-- only a resilver has a transaction group in a log
+pub record MayStart (h : ℕ) (scope : Scope) : Type 0 where
+  pub runs : scope.kind ≢ Idle
+  pub ends : scope.max ≤ h + 1
+  pub logs : scope.kind ≢ Resilver → (log : List Interval) → Has scope.dirty0 log → log ≡ []
+
+-- the state of a scan that has just started, while these devices are offline
+abbrev pub started : ℕ → Phys
+started away = record { status = Scanning; paused = false; away = away; at = Nowhere; curmin = 0; curmax = 0; again = false; todo = first_todo }
+
+-- a scan starts: whatever was done, all that is live is ahead
+abbrev pub StartLaw : Type 0
+StartLaw = (room : Room) (g : Graph) (n h : ℕ) (scope : Scope) (away : ℕ) (done : Piece → Bool) → n ≤ h → Valid room g n → MayStart h scope → IsCovered room g n h scope (started away) done
+
+-- a scan that has nothing ahead has done each live piece in scope
+abbrev pub RestLaw : Type 0
+RestLaw = (room : Room) (g : Graph) (n h : ℕ) (scope : Scope) (s : Phys) (done : Piece → Bool) → IsCovered room g n h scope s done → IsTrue (claims s.status) → s.at ≡ Nowhere → s.todo ≡ [] → (p : Piece) → IsLive g p → IsTrue (in_scope scope p) → IsTrue (done p)
+
+-- later transaction groups come, and more is done
+abbrev pub LaterLaw : Type 0
+LaterLaw = (room : Room) (g : Graph) (n h k : ℕ) (scope : Scope) (s : Phys) (done more : Piece → Bool) → IsCovered room g n h scope s done → h ≤ k → StaysDone g done more → IsCovered room g n k scope s more
+
+-- a scan that is at rest finishes
+abbrev pub EndLaw : Type 0
+EndLaw = (room : Room) (g : Graph) (n h : ℕ) (scope : Scope) (s : Phys) (done : Piece → Bool) → IsCovered room g n h scope s done → s.status ≡ Scanning → IsAtRest s → IsCovered room g n h scope (record s { status = Finished }) done

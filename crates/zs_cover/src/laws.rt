@@ -1,6 +1,6 @@
-//! One law for each event, and one for the turns of the walk.
+//! One law for each event, one for the turns of the walk, and those of a scan's start and end.
 
-ghost use Rattle.zs_cover.specs.Laws.{ApplyLaw, AwayLaw, CloneLaw, DestroyLaw, FsLaw, HomeLaw, SnapshotLaw, SwapLaw, TurnLaw};
+ghost use Rattle.zs_cover.specs.Laws.{ApplyLaw, AwayLaw, CloneLaw, DestroyLaw, EndLaw, FsLaw, HomeLaw, LaterLaw, RestLaw, SnapshotLaw, StartLaw, SwapLaw, TurnLaw};
 
 /// A turn of the walk, in a scan whose scope ends by the transaction group whose tasks come next, keeps a state
 /// sound and covering, where what it puts is done.
@@ -49,4 +49,25 @@ pub fn swap_law()
 /// Each live piece of a valid graph is in one entry at home, of one dataset.
 pub fn home_law()
     ensures { HomeLaw }
+{}
+
+/// A scan that starts, in a valid graph, with the origin alone in its queue, is sound and covers, whatever was done.
+pub fn start_law()
+    ensures { StartLaw }
+{}
+
+/// A scan that is between two datasets with an empty queue has done each live piece in scope, where it runs or has
+/// finished.
+pub fn rest_law()
+    ensures { RestLaw }
+{}
+
+/// A state that is sound and covers stays so for later transaction groups, and where more is done.
+pub fn later_law()
+    ensures { LaterLaw }
+{}
+
+/// A scan that is at rest stays sound and covering where it finishes.
+pub fn end_law()
+    ensures { EndLaw }
 {}

@@ -4,7 +4,8 @@
 //! Model: a graph is the plain list of its datasets (`zs_ids`), a scan state the record of its fields
 //! (`zs_phys`), and what was examined, waits or is being read is a test on pieces. `specs/Laws` states the laws.
 //! Promise: each event, with its change of the graph and of the state, and each turn of the walk, keeps three
-//! facts: the graph is valid, the state is sound, and each live piece in scope is done or ahead of the state.
+//! facts: the graph is valid, the state is sound, and each live piece in scope is done or ahead of the state. A scan
+//! that starts has all three, and one with nothing left to walk has done each live piece in scope.
 //!
 //! A law is a function that does nothing, and whose contract is the law. The scan cites them for its running and its
 //! stored state. The laws' proofs stand in `proofs/`, a file for each.
