@@ -1,0 +1,4 @@
+pub mod Visits
+pub mod Children
+pub mod Rooms
+pub mod Ends
