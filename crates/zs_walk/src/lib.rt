@@ -14,6 +14,7 @@
 #![tactic(auto)]
 
 pub mod datasets;
+pub mod laws;
 pub mod turns;
 
 pub use datasets::Datasets;

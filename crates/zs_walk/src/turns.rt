@@ -8,7 +8,6 @@ ghost use Rattle.zs_phys.specs.declared.step.Step.TheVariants as steps;
 ghost use Rattle.zs_walk.specs.Walking.{AreHeadsUndated, MayWalk, MeetsBlock, is_walking};
 
 use crate::datasets::Datasets;
-use zs_cover::laws::turn_law;
 use zs_ids::{DsId, Key};
 use zs_phys::{At, Phys, Scope, Status, Step, Todo, Todos};
 
@@ -48,21 +47,19 @@ fn is_walking(phys: &Phys) -> bool
 }
 
 /// Makes the turn that comes: the bookmark, the pass and the queue become what the turn makes of them, and all else
-/// stays. Takes no memory.
+/// stays; the state still belongs to the graph. Takes no memory.
 pub fn advance<G: Datasets>(graph: &G, scope: &Scope, phys: &mut Phys, step: &Step)
     requires state { MayWalk (G.datasets graph.now) scope.now phys.old }
     requires comes { Comes (G.datasets graph.now) scope.now phys.old step.now }
-    ensures { phys.new ≡ advanced (G.datasets graph.now) scope.now phys.old step.now }
+    ensures turn { phys.new ≡ advanced (G.datasets graph.now) scope.now phys.old step.now }
+    ensures goes_on { MayWalk (G.datasets graph.now) scope.now phys.new }
 {
     match *step {
         Step::Nothing => {}
         Step::Skip => skip(phys),
         Step::Enter(id, min) => enter(graph, scope, phys, id, min),
         Step::At(key, _) => phys.at = behind(phys.at, key),
-        Step::End(id) => {
-            turn_law();
-            end(graph, phys, id);
-        }
+        Step::End(id) => end(graph, phys, id),
     }
 }
 

@@ -1,0 +1,13 @@
+//! The laws of the walk. A law is a function that does nothing, and whose contract is the law.
+
+ghost use Rattle.zs_walk.specs.Laws.{OneStepLaw, RisesLaw};
+
+/// In a state that belongs to a valid graph one turn comes at most, so that `visit` answers the one that comes.
+pub fn one_step_law()
+    ensures { OneStepLaw }
+{}
+
+/// At a dataset the key rises strictly at each block that is met, so that no pass meets a block twice.
+pub fn rises_law()
+    ensures { RisesLaw }
+{}
