@@ -23,3 +23,6 @@ pub use blocks::Blocks;
 pub use dataset::{DsId, DsName, Name};
 pub use key::Key;
 pub use seq::Seq;
+
+#[cfg(test)]
+mod tests;

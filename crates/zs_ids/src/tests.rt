@@ -1,0 +1,78 @@
+//! Keys by the table of the blocks of a dataset, and lists in and out of a public type.
+
+use crate::{Key, Seq};
+use std::test::Fail;
+
+/// A block of object 37.
+fn block(leaf: u32, depth: u8) -> Key {
+    Key {
+        object: 37,
+        rank: 1,
+        leaf,
+        depth,
+    }
+}
+
+/// The block of the dnodes of objects 32 to 63.
+fn dnodes() -> Key {
+    Key {
+        object: 32,
+        rank: 0,
+        leaf: 0,
+        depth: 1,
+    }
+}
+
+#[test]
+fn parents_lead_from_a_record_to_the_root(rt: HostRuntime) {
+    assert_eq!(rt; block(130, 3).parent(3), Some(block(128, 2)));
+    assert_eq!(rt; block(128, 2).parent(3), Some(block(0, 1)));
+    assert_eq!(rt; block(0, 1).parent(3), Some(dnodes()));
+    assert_eq!(rt; dnodes().parent(3), Some(Key::ROOT));
+    assert_eq!(rt; Key::ROOT.parent(3), None);
+}
+
+#[test]
+fn the_one_record_of_a_flat_object_stands_in_its_dnode(rt: HostRuntime) {
+    assert_eq!(rt; block(0, 3).parent(1), Some(dnodes()));
+}
+
+#[test]
+fn a_block_comes_before_the_blocks_below_it(rt: HostRuntime) {
+    assert!(rt; Key::ROOT < dnodes());
+    assert!(rt; dnodes() < block(0, 1));
+    assert!(rt; block(0, 1) < block(0, 2));
+    assert!(rt; block(0, 3) < block(64, 2));
+}
+
+#[test]
+fn after_a_key_comes_the_next_depth_at_its_place(rt: HostRuntime) {
+    let above = Key {
+        depth: 2,
+        ..block(64, 1)
+    };
+    assert_eq!(rt; above.after(), block(64, 3));
+    assert_eq!(rt; Key::ROOT.after().depth, 1);
+}
+
+#[test]
+fn a_list_keeps_the_order_of_its_items(rt: HostRuntime) -> Result<(), Fail> {
+    let alloc = rt.alloc();
+    let mut list = Seq::new(alloc);
+    assert_eq!(rt; list.len(), 0);
+    list.push(3)?;
+    list.push(1)?;
+    assert_eq!(rt; list.len(), 2);
+    assert_eq!(rt; list.as_slice(), [3, 1].as_slice());
+    assert_eq!(rt; list.into_vec().as_slice(), [3, 1].as_slice());
+    Ok(())
+}
+
+#[test]
+fn a_list_is_made_from_a_vec_or_a_slice(rt: HostRuntime) -> Result<(), Fail> {
+    let alloc = rt.alloc();
+    let copied = Seq::from_slice(alloc, &[5, 6])?;
+    let moved = Seq::from_vec(copied.into_vec());
+    assert_eq!(rt; moved.as_slice(), [5, 6].as_slice());
+    Ok(())
+}
