@@ -3,10 +3,10 @@ ghost use Rattle.std.specs.Prelude.{◌≡◌, ◌≤◌, ◌+◌, ◌<◌, ◌/
 ghost use Rattle.zs_io.specs.Told.{Told, BothTold, Torn, over};
 ghost use Rattle.zs_io.specs.Crash.{Follows, NoMore, Only, Elapses};
 ghost use Rattle.zs_io.specs.Faults.{HasCause};
-ghost use Rattle.zs_io.specs.Calls.{bytes_of, images_of, images_since, fails_at};
+ghost use Rattle.zs_io.specs.Calls.{bytes_of, images_of, images_since, with_call, fails_at};
 ghost use Rattle.zs_io.specs.CallLaws.{told_is_kept, images_of_fit, images_count_now, images_only_now};
 
-use crate::disk::Disk;
+use crate::disk::{Call, Disk};
 use crate::{BayFault, Device};
 use std::alloc::Global;
 
@@ -30,6 +30,8 @@ impl MemDevice {
         ensures size { ⟦<MemDevice as Device>⟧.size result ≡ length bytes.items }
         ensures durable { Only bytes.items (⟦<MemDevice as Device>⟧.may_leave result) }
         ensures faults { ⟦<MemDevice as Device>⟧.faults result ≡ 0 }
+        ensures calls { result.disk.calls ≡ [] }
+        ensures list { (result.fails ≡ fails) × (result.from ≡ from) × (result.torn ≡ torn) }
     {
         MemDevice {
             disk: Disk::new(alloc, bytes),
@@ -84,11 +86,11 @@ impl Device for MemDevice {
         ensures cause { HasCause self.old.faults self.new.faults result }
         ensures memory { IsErrOf result BayFault.Memory → self.new ≡ self.old }
 
-        // Just the calls of these numbers fail, and each call has a number but one for which memory is wanting.
+        // Just the calls of these numbers fail, and each call is kept, and so has a number, but one for which memory is wanting.
         ensures succeeds { OnOk result (fails_at self.old.fails.items self.old.from (length self.old.disk.calls) ≡ false) }
         ensures fails { IsErrOf result BayFault.Failed → fails_at self.old.fails.items self.old.from (length self.old.disk.calls) ≡ true }
-        ensures number { OnOk result (length self.new.disk.calls ≡ length self.old.disk.calls + 1) }
-        ensures failed_number { IsErrOf result BayFault.Failed → length self.new.disk.calls ≡ length self.old.disk.calls + 1 }
+        ensures call { OnOk result (self.new.disk ≡ with_call self.old.disk Call.Looked) }
+        ensures failed_call { IsErrOf result BayFault.Failed → self.new.disk ≡ with_call self.old.disk Call.Looked }
         ensures list { (self.new.fails ≡ self.old.fails) × (self.new.from ≡ self.old.from) × (self.new.torn ≡ self.old.torn) }
     {
         if self.fails_next() {
@@ -112,11 +114,11 @@ impl Device for MemDevice {
         ensures cause { HasCause self.old.faults self.new.faults result }
         ensures memory { IsErrOf result BayFault.Memory → self.new ≡ self.old }
 
-        // Just the calls of these numbers fail, and each call has a number but one for which memory is wanting.
+        // Just the calls of these numbers fail, and each call is kept, and so has a number, but one for which memory is wanting.
         ensures succeeds { OnOk result (fails_at self.old.fails.items self.old.from (length self.old.disk.calls) ≡ false) }
         ensures fails { IsErrOf result BayFault.Failed → fails_at self.old.fails.items self.old.from (length self.old.disk.calls) ≡ true }
-        ensures number { OnOk result (length self.new.disk.calls ≡ length self.old.disk.calls + 1) }
-        ensures failed_number { IsErrOf result BayFault.Failed → length self.new.disk.calls ≡ length self.old.disk.calls + 1 }
+        ensures call { OnOk result (self.new.disk ≡ with_call self.old.disk (Call.Wrote at bytes.now (length bytes.now))) }
+        ensures failed_call { IsErrOf result BayFault.Failed → self.new.disk ≡ with_call self.old.disk (Call.Wrote at bytes.now (if self.old.torn then length bytes.now / 2 else 0)) }
         ensures list { (self.new.fails ≡ self.old.fails) × (self.new.from ≡ self.old.from) × (self.new.torn ≡ self.old.torn) }
     {
         if self.fails_next() {
@@ -138,11 +140,11 @@ impl Device for MemDevice {
         ensures cause { HasCause self.old.faults self.new.faults result }
         ensures memory { IsErrOf result BayFault.Memory → self.new ≡ self.old }
 
-        // Just the calls of these numbers fail, and each call has a number but one for which memory is wanting.
+        // Just the calls of these numbers fail, and each call is kept, and so has a number, but one for which memory is wanting.
         ensures succeeds { OnOk result (fails_at self.old.fails.items self.old.from (length self.old.disk.calls) ≡ false) }
         ensures fails { IsErrOf result BayFault.Failed → fails_at self.old.fails.items self.old.from (length self.old.disk.calls) ≡ true }
-        ensures number { OnOk result (length self.new.disk.calls ≡ length self.old.disk.calls + 1) }
-        ensures failed_number { IsErrOf result BayFault.Failed → length self.new.disk.calls ≡ length self.old.disk.calls + 1 }
+        ensures call { OnOk result (self.new.disk ≡ with_call self.old.disk Call.Synced) }
+        ensures failed_call { IsErrOf result BayFault.Failed → self.new.disk ≡ with_call self.old.disk Call.Looked }
         ensures list { (self.new.fails ≡ self.old.fails) × (self.new.from ≡ self.old.from) × (self.new.torn ≡ self.old.torn) }
     {
         if self.fails_next() {

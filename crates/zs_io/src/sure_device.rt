@@ -1,10 +1,12 @@
 // A device in memory that never fails.
-ghost use Rattle.std.specs.Prelude.{◌≡◌, ◌≤◌, ◌+◌, ◌<◌, [], List, ℕ, Some, length, OnOk, OnErr, IsErrOf};
-ghost use Rattle.zs_io.specs.Crash.{Only};
-ghost use Rattle.zs_io.specs.Calls.{bytes_of, images_of, images_since};
+ghost use Rattle.std.specs.Prelude.{◌≡◌, ◌≢◌, ◌≤◌, ◌+◌, [], List, ℕ, Some, length, option_map, slice_range, OnOk, OnErr, IsErrOf};
+ghost use Rattle.zs_io.specs.Told.{Told, Torn, over};
+ghost use Rattle.zs_io.specs.Crash.{Follows, NoMore, Only, Elapses};
+ghost use Rattle.zs_io.specs.Faults.{HasCause};
+ghost use Rattle.zs_io.specs.Calls.{bytes_of, images_of, images_since, with_call};
 ghost use Rattle.zs_io.specs.CallLaws.{told_is_kept, images_of_fit, images_count_now, images_only_now};
 
-use crate::disk::Disk;
+use crate::disk::{Call, Disk};
 use crate::{BayFault, Device};
 use std::alloc::Global;
 
@@ -20,6 +22,7 @@ impl SureDevice {
         ensures told { ⟦<SureDevice as Device>⟧.told result ≡ Some bytes.items }
         ensures size { ⟦<SureDevice as Device>⟧.size result ≡ length bytes.items }
         ensures durable { Only bytes.items (⟦<SureDevice as Device>⟧.may_leave result) }
+        ensures calls { result.disk.calls ≡ [] }
     {
         SureDevice {
             disk: Disk::new(alloc, bytes),
@@ -51,18 +54,56 @@ impl Device for SureDevice {
         self.disk.size()
     }
 
-    fn read_at(&mut self, at: u64, buf: &mut [u8]) -> Result<(), BayFault> {
+    fn read_at(&mut self, at: u64, buf: &mut [u8]) -> Result<(), BayFault>
+        requires { at + length buf.old ≤ length self.old.disk.first }
+        ensures size { length self.new.disk.first ≡ length self.old.disk.first }
+        ensures bytes { OnOk result (Told (Some (bytes_of self.old.disk)) (λ b. buf.new ≡ slice_range b at (at + length buf.old))) }
+        ensures told { Some (bytes_of self.new.disk) ≡ Some (bytes_of self.old.disk) }
+        ensures crash { NoMore (images_of self.old.disk) (images_of self.new.disk) }
+        ensures time { Elapses (length self.old.disk.calls) (length self.new.disk.calls) (images_since self.old.disk) (images_since self.new.disk) (images_of self.new.disk) }
+        ensures cause { HasCause 0 0 result }
+        ensures memory { IsErrOf result BayFault.Memory → self.new ≡ self.old }
+
+        // It never fails, and each call is kept but one for which memory is wanting.
+        ensures sure { result ≢ Err BayFault.Failed }
+        ensures call { OnOk result (self.new.disk ≡ with_call self.old.disk Call.Looked) }
+    {
         self.disk.look()?;
         self.disk.read(at, buf);
         Ok(())
     }
 
-    fn write_at(&mut self, at: u64, bytes: &[u8]) -> Result<(), BayFault> {
+    fn write_at(&mut self, at: u64, bytes: &[u8]) -> Result<(), BayFault>
+        requires { at + length bytes.now ≤ length self.old.disk.first }
+        ensures size { length self.new.disk.first ≡ length self.old.disk.first }
+        ensures written { OnOk result (Some (bytes_of self.new.disk) ≡ option_map (over at bytes.now) (Some (bytes_of self.old.disk))) }
+        ensures torn { OnErr result (Torn at bytes.now (bytes_of self.old.disk) (bytes_of self.new.disk)) }
+        ensures crash { Follows (Torn at bytes.now) (images_of self.old.disk) (images_of self.new.disk) }
+        ensures time { Elapses (length self.old.disk.calls) (length self.new.disk.calls) (images_since self.old.disk) (images_since self.new.disk) (images_of self.new.disk) }
+        ensures cause { HasCause 0 0 result }
+        ensures memory { IsErrOf result BayFault.Memory → self.new ≡ self.old }
+
+        // It never fails, and each call is kept but one for which memory is wanting.
+        ensures sure { result ≢ Err BayFault.Failed }
+        ensures call { OnOk result (self.new.disk ≡ with_call self.old.disk (Call.Wrote at bytes.now (length bytes.now))) }
+    {
         self.disk.write(at, bytes, bytes.len())?;
         Ok(())
     }
 
-    fn sync(&mut self) -> Result<(), BayFault> {
+    fn sync(&mut self) -> Result<(), BayFault>
+        ensures size { length self.new.disk.first ≡ length self.old.disk.first }
+        ensures durable { OnOk result (Told (Some (bytes_of self.old.disk)) (λ b. Only b (images_of self.new.disk))) }
+        ensures told { Some (bytes_of self.new.disk) ≡ Some (bytes_of self.old.disk) }
+        ensures crash { NoMore (images_of self.old.disk) (images_of self.new.disk) }
+        ensures time { Elapses (length self.old.disk.calls) (length self.new.disk.calls) (images_since self.old.disk) (images_since self.new.disk) (images_of self.new.disk) }
+        ensures cause { HasCause 0 0 result }
+        ensures memory { IsErrOf result BayFault.Memory → self.new ≡ self.old }
+
+        // It never fails, and each call is kept but one for which memory is wanting.
+        ensures sure { result ≢ Err BayFault.Failed }
+        ensures call { OnOk result (self.new.disk ≡ with_call self.old.disk Call.Synced) }
+    {
         self.disk.sync()?;
         Ok(())
     }

@@ -1,5 +1,5 @@
 use Rattle.std.proofs.Common.{◌≡◌, ◌∙◌, List, ℕ, [], ap, sym, subst}
-use Rattle.zs_io.specs.Calls.{Kept, bytes_of, images_of, after_calls}
+use Rattle.zs_io.specs.Calls.{bytes_of, images_of, after_calls}
 use Rattle.zs_io.specs.Crash.{Only}
 use Rattle.zs_io.specs.declared.disk.Call.{Call}
 use Rattle.zs_io.proofs.disk.Disk.new.Goals as goal
