@@ -4,3 +4,4 @@ pub mod Rooms
 pub mod Ends
 pub mod OneStep
 pub mod Rising
+pub mod Examples

@@ -1,3 +1,4 @@
 pub mod Asked
 pub mod Walking
 pub mod Laws
+pub mod Examples

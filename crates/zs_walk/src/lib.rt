@@ -19,3 +19,6 @@ pub mod turns;
 
 pub use datasets::Datasets;
 pub use turns::{advance, visit};
+
+#[cfg(test)]
+mod tests;
