@@ -1,19 +1,15 @@
 -- The two small graphs are valid, so that a scan may walk over them.
-use Rattle.std.proofs.Common.{◌≡◌, ◌≢◌, ◌⊎◌, ◌<◌, ◌≤◌, ◌+◌, ◌++◌, ℕ, Bool, true, false, List, [], ◌∷◌, refl, sym, ap, subst, ◌∙◌, arith}
-use Rattle.std.specs.Prelude.{Option, Some, None, length, slice_index}
+use Rattle.std.proofs.Common.{◌≡◌, ◌≢◌, ◌<◌, ◌≤◌, ◌+◌, ◌++◌, ℕ, true, false, List, [], ◌∷◌, refl, sym, ap, subst, ◌∙◌, arith}
+use Rattle.std.specs.Prelude.{Some, length}
 use Rattle.std.specs.List.Sorted.{IsStrictlySortedBy}
 use Rattle.std.proofs.lemmas.Bool.{true≢false}
 use Rattle.zs_ids.specs.declared.key.Key.{Key}
 use Rattle.zs_ids.specs.declared.block.Bp.{Bp}
 use Rattle.zs_ids.specs.declared.block.Piece.{Piece}
-use Rattle.zs_ids.specs.declared.dataset.DsId.{DsId}
 use Rattle.zs_ids.specs.Key.{root_key, dnode_key, record_key, parent_of}
-use Rattle.zs_ids.specs.Blocks.{IsInKeyOrder, replaced}
-use Rattle.zs_ids.specs.Graph.{Has, Dataset, Graph, pieces_of, IsLive}
-use Rattle.zs_ids.specs.GraphTree.{IsHome}
-use Rattle.zs_ids.specs.GraphValid.{origin, HasForm, IsBlock, HasBlock, HasBlocks, IsTree, Shares, Overlap, AreApart, IsValid, LiesIn, IsWithin, HasAtMost, Valid}
+use Rattle.zs_ids.specs.Graph.{Has, Dataset, Graph, pieces_of}
+use Rattle.zs_ids.specs.GraphValid.{origin, HasForm, IsBlock, HasBlock, HasBlocks, IsTree, Overlap, AreApart, LiesIn, IsWithin, Valid}
 use Rattle.zs_ids.specs.GraphValid.IsBlock.{root as root_block, dnodes as dnode_block, leaf as record_block}
-use Rattle.zs_ids.specs.GraphChange.{MayClone, MaySnapshot, MayApply, with_fs, with_snapshot, applied}
 use Rattle.zs_phys.specs.declared.scope.Scope.{Scope}
 use Rattle.zs_phys.specs.declared.phys.Phys.{Phys}
 use Rattle.zs_phys.specs.Handlers.{handled, Event as events}
@@ -25,7 +21,7 @@ use Rattle.zs_cover.proofs.Clones.{fs_keeps}
 use Rattle.zs_cover.proofs.Applies.{apply_keeps}
 use Rattle.zs_cover.proofs.Snapshots.{snapshot_keeps}
 use Rattle.zs_walk.specs.Walking.{MayWalk}
-use Rattle.zs_walk.specs.Examples.{block, one_record, head_id, snapshot_id, name, head_with, snapshot_with, one_head, head_and_snapshot, room, scrub_up_to}
+use Rattle.zs_walk.specs.Examples.{block, one_record, head_id, snapshot_id, name, head_with, one_head, head_and_snapshot, room, scrub_up_to}
 use mathlib.Core.Logic.{inl, inr}
 
 -- a block has its form, its birth, and one piece, which lies in the room

@@ -22,7 +22,7 @@ pub record MayWalk (g : Graph) (scope : Scope) (s : Phys) : Type 0 where
   pub valid : Valid room g n
   pub sound : Sound g h scope s
 
--- a block of a dataset: it has its pieces, and there is a key right behind its own
+-- a block of a dataset: its pointer uses as many places as this version has, and there is a key right behind its own
 pub record IsOfDataset (k : Key) (bp : Bp) : Type 0 where
   pub shallow : k.depth < 4
   pub places : bp.count ≡ copies
