@@ -1,4 +1,9 @@
 pub mod Entries
+pub mod Inserting
+pub mod Blank
+pub mod Wholes
+pub mod Applying
+pub mod Applied
 pub mod Staged
 pub mod Put
 pub mod Walks

@@ -2,6 +2,7 @@ pub mod Waiting
 pub mod Machine
 pub mod Replies
 pub mod Steps
+pub mod Placed
 pub mod History
 pub mod View
 pub mod Kept
