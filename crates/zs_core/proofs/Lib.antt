@@ -4,6 +4,8 @@ pub mod Blank
 pub mod Wholes
 pub mod Applying
 pub mod Applied
+pub mod Placing
+pub mod Making
 pub mod Staged
 pub mod Put
 pub mod Walks

@@ -1,0 +1,173 @@
+-- The record of an object is staged with the blocks above it, and what is staged stays formed and placed.
+use Rattle.std.specs.Prelude.{◌≡◌, ◌≢◌, ◌≤◌, ◌+◌, ◌==◌, ℕ, Bool, true, false, cond, List, is_some, Option, Some, None, refl, if◌then◌else◌}
+use Rattle.std.specs.Ordering.{is_eq}
+use Rattle.std.proofs.Common.{sym, ◌∙◌, ap, subst, arith}
+use Rattle.std.proofs.lemmas.Bool.{true≢false, eqb-true, eq-eqb, false_from_ne_true}
+use Rattle.std.proofs.lemmas.Cmp.{tied_itself}
+use Rattle.zs_ids.specs.declared.key.Key.{Key}
+use Rattle.zs_ids.specs.declared.block.Bp.{Bp}
+use Rattle.zs_ids.specs.declared.block.Place.{Place}
+use Rattle.zs_ids.specs.declared.dataset.DsId.{DsId}
+use Rattle.zs_ids.specs.Key.{key_cmp, root_key, dnode_key, record_key, parent_of}
+use Rattle.zs_ids.specs.Blocks.{bp_at}
+use Rattle.zs_ids.specs.Graph.{Has}
+use Rattle.zs_ids.specs.GraphValid.{record_sizes}
+use Rattle.zs_txg.specs.declared.staged.Staging.{Staging}
+use Rattle.zs_txg.specs.Txg.{Slot, slot_cmp, staged_at, put_staged}
+use Rattle.zs_txg.proofs.Entries.{lookup-insert_entry}
+use Rattle.zs_txg.proofs.Slots.{slot_total, same_slot, key_total}
+use Rattle.zs_core.specs.Steps.{staged_once, IsStagedWith}
+use Rattle.zs_core.specs.Placed.{IsFormed, resized, AreFormed, AreStaged, ArePlaced, sector_at, next_after, with_root, after_root, with_above, after_above, staged_with}
+use Rattle.zs_core.specs.Placed.IsFormed.{root, dnodes, leaf}
+use Rattle.zs_core.proofs.Inserting.{at_some, at_none}
+use Rattle.zs_core.proofs.Applying.{same_key}
+use Rattle.zs_core.proofs.Placing.{is_equal, some_stays, staged_put, placed_next, placed_again}
+
+-- what is staged for the head is formed and placed
+abbrev pub AreReady : (ℕ → ℕ) → DsId → ℕ → ℕ → ℕ → List (Key × Bp) → List (Slot × Staging) → Type 0
+AreReady size id start next end entries staged = AreStaged size id staged × ArePlaced start next end entries staged
+
+abbrev pointers : ℕ → Staging
+pointers next = record { place = sector_at next; sectors = 8; fill = None }
+
+here_by : (b : Bool) (f : Option Staging) (what : Staging) → b ≡ true → is_some (cond b (Some what) f) ≡ true
+here_by true f what is = refl
+here_by false f what is = absurd (true≢false (sym is))
+
+-- what was just staged is staged
+just_staged : (staged : List (Slot × Staging)) (slot : Slot) (what : Staging) → is_some (staged_at (put_staged staged slot what) slot) ≡ true
+just_staged staged slot what =
+    subst (λ (f : Option Staging). is_some f ≡ true) (sym (lookup-insert_entry slot_total slot what slot staged)) (here_by (is_eq (slot_cmp slot slot)) (staged_at staged slot) what (ap is_eq (tied_itself slot_total slot)))
+
+-- a block of pointers is staged at the next sector, unless one is staged at its slot
+module _ (size : ℕ → ℕ) (id : DsId) (start next end : ℕ) (entries : List (Key × Bp)) (staged : List (Slot × Staging)) (key : Key) (formed : IsFormed size key 8) (above : (k : Key) → parent_of key 1 ≡ Some k → is_some (staged_at staged (id, k)) ≡ true) (ready : AreReady size id start next end entries staged) where
+  abbrev once_by : Bool → List (Slot × Staging)
+  once_by b = if b then staged else put_staged staged (id, key) (pointers next)
+
+  ready_by : (b : Bool) → (if b then next else next + 8) ≤ end → AreReady size id start (if b then next else next + 8) end entries (once_by b)
+  ready_by true fits = ready
+  ready_by false fits = (staged_put size id staged ready.0 key (pointers next) formed above, placed_next size id staged ready.0 key (pointers next) start next end entries ready.1 refl fits)
+
+  pub ready_once : next_after staged (id, key) 8 next ≤ end → AreReady size id start (next_after staged (id, key) 8 next) end entries (staged_once staged (id, key) (sector_at next))
+  ready_once fits = ready_by (is_some (staged_at staged (id, key))) fits
+
+-- a slot is staged once it is staged if need be, and another one that is staged stays
+pub is_once : (staged : List (Slot × Staging)) (slot : Slot) (place : Place) → is_some (staged_at (staged_once staged slot place) slot) ≡ true
+is_once staged slot place = by (is_some (staged_at staged slot)) refl
+  where
+    by : (b : Bool) → is_some (staged_at staged slot) ≡ b → is_some (staged_at (if b then staged else put_staged staged slot (record { place = place; sectors = 8; fill = None })) slot) ≡ true
+    by true is = is
+    by false is = just_staged staged slot _
+
+pub stays_once : (staged : List (Slot × Staging)) (slot at : Slot) (place : Place) → is_some (staged_at staged at) ≡ true → is_some (staged_at (staged_once staged slot place) at) ≡ true
+stays_once staged slot at place h = by (is_some (staged_at staged slot))
+  where
+    by : (b : Bool) → is_some (staged_at (if b then staged else put_staged staged slot (record { place = place; sectors = 8; fill = None })) at) ≡ true
+    by true = h
+    by false = some_stays staged slot at _ h
+
+none_above : (k : Key) → parent_of root_key 1 ≡ Some k → ⊥
+none_above k is = absurd (cc)
+
+root_above : (object : ℕ) (k : Key) → parent_of (dnode_key object) 1 ≡ Some k → root_key ≡ k
+root_above object k is = cc
+
+dnode_above : (object : ℕ) (k : Key) → parent_of (record_key object 0) 1 ≡ Some k → dnode_key object ≡ k
+dnode_above object k is = cc
+
+module _ (size : ℕ → ℕ) (id : DsId) (start next end : ℕ) (entries : List (Key × Bp)) (staged : List (Slot × Staging)) (object : ℕ) (last : object ≤ 2047) (ready : AreReady size id start next end entries staged) where
+  below_end : after_above staged id object next ≤ end → after_root staged id next ≤ end
+  below_end fits = by (is_some (staged_at (with_root staged id next) (id, dnode_key object))) fits
+    where
+      by : (b : Bool) → (if b then after_root staged id next else after_root staged id next + 8) ≤ end → after_root staged id next ≤ end
+      by true h = h
+      by false h = omega (arith, h)
+
+  ready_root : after_root staged id next ≤ end → AreReady size id start (after_root staged id next) end entries (with_root staged id next)
+  ready_root fits = ready_once size id start next end entries staged root_key (root refl refl) (λ k is. absurd (none_above k is)) ready fits
+
+  -- the blocks above a record are staged
+  pub ready_above : after_above staged id object next ≤ end → AreReady size id start (after_above staged id object next) end entries (with_above staged id object next)
+  ready_above fits =
+      ready_once size id start (after_root staged id next) end entries (with_root staged id next) (dnode_key object) (dnodes object last refl refl) (λ k is. subst (λ (x : Key). is_some (staged_at (with_root staged id next) (id, x)) ≡ true) (root_above object k is) (is_once staged (id, root_key) (sector_at next))) (ready_root (below_end fits)) fits
+
+  -- a record is staged for the first time in the group, with the blocks above it
+  pub write_staged : (sectors : ℕ) (fill : Option ℕ) → 1 ≤ object → sectors ≡ size object → after_above staged id object next + sectors ≤ end → AreReady size id start (after_above staged id object next + sectors) end entries (staged_with staged id object sectors fill next)
+  write_staged sectors fill first is fits =
+      let what : Staging = record { place = sector_at (after_above staged id object next); sectors = sectors; fill = fill } in
+      let now : AreReady size id start (after_above staged id object next) end entries (with_above staged id object next) = ready_above (omega (arith, fits)) in
+      let above : (k : Key) → parent_of (record_key object 0) 1 ≡ Some k → is_some (staged_at (with_above staged id object next) (id, k)) ≡ true = λ k up. subst (λ (x : Key). is_some (staged_at (with_above staged id object next) (id, x)) ≡ true) (dnode_above object k up) (is_once (with_root staged id next) (id, dnode_key object) (sector_at (after_root staged id next))) in
+      (staged_put size id (with_above staged id object next) now.0 (record_key object 0) what (leaf object first last refl is) above, placed_next size id (with_above staged id object next) now.0 (record_key object 0) what start (after_above staged id object next) end entries now.1 refl fits)
+
+-- a block that is staged is staged again at its place, with another fill
+pub staged_again : (size : ℕ → ℕ) (id : DsId) (start next end : ℕ) (entries : List (Key × Bp)) (staged : List (Slot × Staging)) (key : Key) (old : Staging) (fill : Option ℕ) → AreReady size id start next end entries staged → staged_at staged (id, key) ≡ Some old → AreReady size id start next end entries (put_staged staged (id, key) (record { place = old.place; sectors = old.sectors; fill = fill }))
+staged_again size id start next end entries staged key old fill ready found =
+    let was : Has staged ((id, key), old) = at_some slot_cmp slot_total same_slot staged (id, key) old found in
+    let what : Staging = record { place = old.place; sectors = old.sectors; fill = fill } in
+    (staged_put size id staged ready.0 key what (ready.0.formed ((id, key), old) was) (λ k up. ready.0.parents ((id, key), old) was k up), placed_again size id staged ready.0 key what start next end entries ready.1 old found refl refl)
+
+-- the size of an object without a record may be set
+resized_formed : (size : ℕ → ℕ) (object sectors : ℕ) (key : Key) (n : ℕ) → key ≢ record_key object 0 → IsFormed size key n → IsFormed (resized size object sectors) key n
+resized_formed size object sectors key n other formed = elim formed [
+  | root k is ↦ root k is
+  | dnodes m to k is ↦ dnodes m to k is
+  | leaf m from to k is ↦ leaf m from to k (is ∙ sym (ap (λ (b : Bool). if b then sectors else size m) (false_from_ne_true (m == object) (λ same. other (k ∙ ap (λ (x : ℕ). record_key x 0) (eqb-true m object same))))))
+]
+
+size_set : (size : ℕ → ℕ) (object sectors : ℕ) → sectors ≡ resized size object sectors object
+size_set size object sectors = sym (ap (λ (b : Bool). if b then sectors else size object) (eq-eqb object object refl))
+
+pub resized_entries : (size : ℕ → ℕ) (object sectors n : ℕ) (entries : List (Key × Bp)) → Has record_sizes sectors → bp_at entries (record_key object 0) ≡ None → AreFormed size n entries → AreFormed (resized size object sectors) n entries
+resized_entries size object sectors n entries is_size none formed = record {
+  sizes = λ m. by m (m == object);
+  in_order = formed.in_order;
+  each = λ e h. let w = formed.each e h in record { formed = resized_formed size object sectors e.0 e.1.sectors (at_none key_cmp key_total same_key entries (record_key object 0) e none h) w.formed; height = w.height; single = w.single; born = w.born };
+  parents = formed.parents;
+}
+  where
+    by : (m : ℕ) (b : Bool) → Has record_sizes (if b then sectors else size m)
+    by m true = is_size
+    by m false = formed.sizes m
+
+pub resized_staged : (size : ℕ → ℕ) (object sectors : ℕ) (id : DsId) (staged : List (Slot × Staging)) → staged_at staged (id, record_key object 0) ≡ None → AreStaged size id staged → AreStaged (resized size object sectors) id staged
+resized_staged size object sectors id staged none s = record {
+  in_order = s.in_order;
+  for_head = s.for_head;
+  formed = λ e h. resized_formed size object sectors e.0.1 e.1.sectors (λ same. at_none slot_cmp slot_total same_slot staged (id, record_key object 0) e none h (λ i. (s.for_head e h i, same i))) (s.formed e h);
+  parents = s.parents;
+}
+
+-- the record of a new object is staged, with the blocks above it
+pub make_staged : (size : ℕ → ℕ) (id : DsId) (start next end : ℕ) (entries : List (Key × Bp)) (staged : List (Slot × Staging)) (object sectors : ℕ) (fill : Option ℕ) → 1 ≤ object → object ≤ 2047 → staged_at staged (id, record_key object 0) ≡ None → after_above staged id object next + sectors ≤ end → AreReady size id start next end entries staged → AreReady (resized size object sectors) id start (after_above staged id object next + sectors) end entries (staged_with staged id object sectors fill next)
+make_staged size id start next end entries staged object sectors fill first last none fits ready =
+    write_staged (resized size object sectors) id start next end entries staged object last (resized_staged size object sectors id staged none ready.0, ready.1) sectors fill first (size_set size object sectors) fits
+
+-- it is a step of the machine
+pub is_make : (staged : List (Slot × Staging)) (id : DsId) (object sectors fill next : ℕ) → IsStagedWith staged id object sectors fill (staged_with staged id object sectors (Some fill) next)
+is_make staged id object sectors fill next = (sector_at next, sector_at (after_root staged id next), sector_at (after_above staged id object next), refl)
+
+-- staging the root changes nothing at another slot
+other_once : (staged : List (Slot × Staging)) (slot at : Slot) (place : Place) → at ≢ slot → staged_at (staged_once staged slot place) at ≡ staged_at staged at
+other_once staged slot at place other = by (is_some (staged_at staged slot))
+  where
+    apart : is_eq (slot_cmp at slot) ≡ false
+    apart = false_from_ne_true (is_eq (slot_cmp at slot)) (λ is. other (same_slot at slot (is_equal (slot_cmp at slot) is)))
+
+    by : (b : Bool) → staged_at (if b then staged else put_staged staged slot (record { place = place; sectors = 8; fill = None })) at ≡ staged_at staged at
+    by true = refl
+    by false = lookup-insert_entry slot_total slot (record { place = place; sectors = 8; fill = None }) at staged ∙ ap (λ (b : Bool). cond b (Some (record { place = place; sectors = 8; fill = None })) (staged_at staged at)) apart
+
+-- the next sector after a record is that many sectors on as it needs with the blocks above it that were not staged
+pub needed_is : (staged : List (Slot × Staging)) (id : DsId) (object sectors next : ℕ) → after_above staged id object next + sectors ≡ next + ((if is_some (staged_at staged (id, root_key)) then 0 else 8) + (if is_some (staged_at staged (id, dnode_key object)) then 0 else 8) + sectors)
+needed_is staged id object sectors next =
+    ap (λ (f : Option Staging). (if is_some f then after_root staged id next else after_root staged id next + 8) + sectors) (other_once staged (id, root_key) (id, dnode_key object) (sector_at next) two)
+    ∙ by (is_some (staged_at staged (id, root_key))) (is_some (staged_at staged (id, dnode_key object)))
+  where
+    two : ◌≢◌ {A = Slot} (id, dnode_key object) (id, root_key)
+    two is = let depth : 1 ≡ 0 = ap (λ (s : Slot). s.1.depth) is in omega (arith, depth)
+
+    by : (a b : Bool) → (if b then (if a then next else next + 8) else (if a then next else next + 8) + 8) + sectors ≡ next + ((if a then 0 else 8) + (if b then 0 else 8) + sectors)
+    by true true = omega arith
+    by true false = omega arith
+    by false true = omega arith
+    by false false = omega arith
