@@ -16,10 +16,10 @@ use Rattle.zs_txg.specs.declared.staged.Staging.{Staging}
 use Rattle.zs_txg.specs.Txg.{Slot, slot_cmp, staged_for, staged_at}
 use Rattle.zs_txg.proofs.Slots.{slot_total, same_slot, key_total}
 use Rattle.zs_core.specs.Steps.{all_replaced, AreChanges}
-use Rattle.zs_core.specs.Placed.{head_of, headed, room_of, IsFormed, IsWhole, HasAt, AreFormed, AreStaged, Meet, LiesBetween, ArePlaced}
+use Rattle.zs_core.specs.Placed.{head_of, headed, room_of, IsFormed, IsWhole, HasAt, AreFormed, AreStaged, Meet, LiesBetween, ArePlaced, AreBothPlaced}
 use Rattle.zs_core.specs.Placed.IsFormed.{root, dnodes, leaf}
 use Rattle.zs_core.proofs.Inserting.{at_some, at_key}
-use Rattle.zs_core.proofs.Wholes.{has_blocks, held, live_entry, are_apart, is_within}
+use Rattle.zs_core.proofs.Wholes.{has_blocks, live_entry, are_apart, is_within}
 use Rattle.zs_core.proofs.Applying.{same_key, NoneAt, from_all, all_in_order, all_old, all_new, with_is, applied_is, IsChangeOf, AreMade, are_made}
 
 -- a piece is born with its block
@@ -188,6 +188,25 @@ module _ (size : ℕ → ℕ) (id : DsId) (name : Name) (n t : ℕ) (entries cha
       live_apart = apart_after;
       new_apart = λ e f h i meet. absurd h;
       between = λ e f h i p is meet. absurd h;
+    }
+
+    -- so it lies beside what is staged in the next transaction group
+    pub both_after : (more : List (Slot × Staging)) → AreBothPlaced start next end entries staged more → AreBothPlaced start next end after [] more
+    both_after more both = record {
+      earlier = placed_after;
+      later = record {
+        begun = placed.begun;
+        in_space = placed.in_space;
+        live = live_after;
+        new = both.later.new;
+        live_apart = apart_after;
+        new_apart = both.later.new_apart;
+        between = λ e f h i p is meet. elim (now f i) [
+          | inl x ↦ (let r = are.from f x in both.beside r.0 e r.1 h (subst (λ (q : Place). Meet e.1.place e.1.sectors q (r.0).1.sectors) ((r.2).piece p is) (subst (λ (m : ℕ). Meet e.1.place e.1.sectors p.place m) (r.2).sectors meet)))
+          | inr x ↦ both.later.between e f h x.0 p is meet
+        ];
+      };
+      beside = λ e f h i meet. absurd h;
     }
 
     -- what was staged may be applied

@@ -17,15 +17,15 @@ use Rattle.zs_txg.specs.Txg.{Slot, slot_cmp, staged_at, put_staged}
 use Rattle.zs_txg.proofs.Entries.{lookup-insert_entry}
 use Rattle.zs_txg.proofs.Slots.{slot_total, same_slot, key_total}
 use Rattle.zs_core.specs.Steps.{staged_once, IsStagedWith}
-use Rattle.zs_core.specs.Placed.{IsFormed, resized, AreFormed, AreStaged, ArePlaced, sector_at, next_after, with_root, after_root, with_above, after_above, staged_with}
+use Rattle.zs_core.specs.Placed.{IsFormed, resized, AreFormed, AreStaged, AreBothPlaced, sector_at, next_after, with_root, after_root, with_above, after_above, staged_with}
 use Rattle.zs_core.specs.Placed.IsFormed.{root, dnodes, leaf}
 use Rattle.zs_core.proofs.Inserting.{at_some, at_none}
 use Rattle.zs_core.proofs.Applying.{same_key}
-use Rattle.zs_core.proofs.Placing.{is_equal, some_stays, staged_put, placed_next, placed_again}
+use Rattle.zs_core.proofs.Placing.{is_equal, some_stays, staged_put, both_next, both_again}
 
--- what is staged for the head is formed and placed
-abbrev pub AreReady : (ℕ → ℕ) → DsId → ℕ → ℕ → ℕ → List (Key × Bp) → List (Slot × Staging) → Type 0
-AreReady size id start next end entries staged = AreStaged size id staged × ArePlaced start next end entries staged
+-- what is staged in the open transaction group is formed, and placed beside what is staged in a closed one
+abbrev pub AreReady : (ℕ → ℕ) → DsId → ℕ → ℕ → ℕ → List (Key × Bp) → List (Slot × Staging) → List (Slot × Staging) → Type 0
+AreReady size id start next end entries closed staged = AreStaged size id staged × AreBothPlaced start next end entries closed staged
 
 abbrev pointers : ℕ → Staging
 pointers next = record { place = sector_at next; sectors = 8; fill = None }
@@ -40,15 +40,15 @@ just_staged staged slot what =
     subst (λ (f : Option Staging). is_some f ≡ true) (sym (lookup-insert_entry slot_total slot what slot staged)) (here_by (is_eq (slot_cmp slot slot)) (staged_at staged slot) what (ap is_eq (tied_itself slot_total slot)))
 
 -- a block of pointers is staged at the next sector, unless one is staged at its slot
-module _ (size : ℕ → ℕ) (id : DsId) (start next end : ℕ) (entries : List (Key × Bp)) (staged : List (Slot × Staging)) (key : Key) (formed : IsFormed size key 8) (above : (k : Key) → parent_of key 1 ≡ Some k → is_some (staged_at staged (id, k)) ≡ true) (ready : AreReady size id start next end entries staged) where
+module _ (size : ℕ → ℕ) (id : DsId) (start next end : ℕ) (entries : List (Key × Bp)) (closed staged : List (Slot × Staging)) (key : Key) (formed : IsFormed size key 8) (above : (k : Key) → parent_of key 1 ≡ Some k → is_some (staged_at staged (id, k)) ≡ true) (ready : AreReady size id start next end entries closed staged) where
   abbrev once_by : Bool → List (Slot × Staging)
   once_by b = if b then staged else put_staged staged (id, key) (pointers next)
 
-  ready_by : (b : Bool) → (if b then next else next + 8) ≤ end → AreReady size id start (if b then next else next + 8) end entries (once_by b)
+  ready_by : (b : Bool) → (if b then next else next + 8) ≤ end → AreReady size id start (if b then next else next + 8) end entries closed (once_by b)
   ready_by true fits = ready
-  ready_by false fits = (staged_put size id staged ready.0 key (pointers next) formed above, placed_next size id staged ready.0 key (pointers next) start next end entries ready.1 refl fits)
+  ready_by false fits = (staged_put size id staged ready.0 key (pointers next) formed above, both_next size id staged ready.0 key (pointers next) start next end entries closed ready.1 refl fits)
 
-  pub ready_once : next_after staged (id, key) 8 next ≤ end → AreReady size id start (next_after staged (id, key) 8 next) end entries (staged_once staged (id, key) (sector_at next))
+  pub ready_once : next_after staged (id, key) 8 next ≤ end → AreReady size id start (next_after staged (id, key) 8 next) end entries closed (staged_once staged (id, key) (sector_at next))
   ready_once fits = ready_by (is_some (staged_at staged (id, key))) fits
 
 -- a slot is staged once it is staged if need be, and another one that is staged stays
@@ -75,7 +75,7 @@ root_above object k is = cc
 dnode_above : (object : ℕ) (k : Key) → parent_of (record_key object 0) 1 ≡ Some k → dnode_key object ≡ k
 dnode_above object k is = cc
 
-module _ (size : ℕ → ℕ) (id : DsId) (start next end : ℕ) (entries : List (Key × Bp)) (staged : List (Slot × Staging)) (object : ℕ) (last : object ≤ 2047) (ready : AreReady size id start next end entries staged) where
+module _ (size : ℕ → ℕ) (id : DsId) (start next end : ℕ) (entries : List (Key × Bp)) (closed staged : List (Slot × Staging)) (object : ℕ) (last : object ≤ 2047) (ready : AreReady size id start next end entries closed staged) where
   below_end : after_above staged id object next ≤ end → after_root staged id next ≤ end
   below_end fits = by (is_some (staged_at (with_root staged id next) (id, dnode_key object))) fits
     where
@@ -83,28 +83,44 @@ module _ (size : ℕ → ℕ) (id : DsId) (start next end : ℕ) (entries : List
       by true h = h
       by false h = omega (arith, h)
 
-  ready_root : after_root staged id next ≤ end → AreReady size id start (after_root staged id next) end entries (with_root staged id next)
-  ready_root fits = ready_once size id start next end entries staged root_key (root refl refl) (λ k is. absurd (none_above k is)) ready fits
+  ready_root : after_root staged id next ≤ end → AreReady size id start (after_root staged id next) end entries closed (with_root staged id next)
+  ready_root fits = ready_once size id start next end entries closed staged root_key (root refl refl) (λ k is. absurd (none_above k is)) ready fits
 
   -- the blocks above a record are staged
-  pub ready_above : after_above staged id object next ≤ end → AreReady size id start (after_above staged id object next) end entries (with_above staged id object next)
+  pub ready_above : after_above staged id object next ≤ end → AreReady size id start (after_above staged id object next) end entries closed (with_above staged id object next)
   ready_above fits =
-      ready_once size id start (after_root staged id next) end entries (with_root staged id next) (dnode_key object) (dnodes object last refl refl) (λ k is. subst (λ (x : Key). is_some (staged_at (with_root staged id next) (id, x)) ≡ true) (root_above object k is) (is_once staged (id, root_key) (sector_at next))) (ready_root (below_end fits)) fits
+      ready_once size id start (after_root staged id next) end entries closed (with_root staged id next) (dnode_key object) (dnodes object last refl refl) (λ k is. subst (λ (x : Key). is_some (staged_at (with_root staged id next) (id, x)) ≡ true) (root_above object k is) (is_once staged (id, root_key) (sector_at next))) (ready_root (below_end fits)) fits
 
   -- a record is staged for the first time in the group, with the blocks above it
-  pub write_staged : (sectors : ℕ) (fill : Option ℕ) → 1 ≤ object → sectors ≡ size object → after_above staged id object next + sectors ≤ end → AreReady size id start (after_above staged id object next + sectors) end entries (staged_with staged id object sectors fill next)
+  pub write_staged : (sectors : ℕ) (fill : Option ℕ) → 1 ≤ object → sectors ≡ size object → after_above staged id object next + sectors ≤ end → AreReady size id start (after_above staged id object next + sectors) end entries closed (staged_with staged id object sectors fill next)
   write_staged sectors fill first is fits =
       let what : Staging = record { place = sector_at (after_above staged id object next); sectors = sectors; fill = fill } in
-      let now : AreReady size id start (after_above staged id object next) end entries (with_above staged id object next) = ready_above (omega (arith, fits)) in
+      let now : AreReady size id start (after_above staged id object next) end entries closed (with_above staged id object next) = ready_above (omega (arith, fits)) in
       let above : (k : Key) → parent_of (record_key object 0) 1 ≡ Some k → is_some (staged_at (with_above staged id object next) (id, k)) ≡ true = λ k up. subst (λ (x : Key). is_some (staged_at (with_above staged id object next) (id, x)) ≡ true) (dnode_above object k up) (is_once (with_root staged id next) (id, dnode_key object) (sector_at (after_root staged id next))) in
-      (staged_put size id (with_above staged id object next) now.0 (record_key object 0) what (leaf object first last refl is) above, placed_next size id (with_above staged id object next) now.0 (record_key object 0) what start (after_above staged id object next) end entries now.1 refl fits)
+      (staged_put size id (with_above staged id object next) now.0 (record_key object 0) what (leaf object first last refl is) above, both_next size id (with_above staged id object next) now.0 (record_key object 0) what start (after_above staged id object next) end entries closed now.1 refl fits)
 
 -- a block that is staged is staged again at its place, with another fill
-pub staged_again : (size : ℕ → ℕ) (id : DsId) (start next end : ℕ) (entries : List (Key × Bp)) (staged : List (Slot × Staging)) (key : Key) (old : Staging) (fill : Option ℕ) → AreReady size id start next end entries staged → staged_at staged (id, key) ≡ Some old → AreReady size id start next end entries (put_staged staged (id, key) (record { place = old.place; sectors = old.sectors; fill = fill }))
-staged_again size id start next end entries staged key old fill ready found =
+pub staged_again : (size : ℕ → ℕ) (id : DsId) (start next end : ℕ) (entries : List (Key × Bp)) (closed staged : List (Slot × Staging)) (key : Key) (old : Staging) (fill : Option ℕ) → AreReady size id start next end entries closed staged → staged_at staged (id, key) ≡ Some old → AreReady size id start next end entries closed (put_staged staged (id, key) (record { place = old.place; sectors = old.sectors; fill = fill }))
+staged_again size id start next end entries closed staged key old fill ready found =
     let was : Has staged ((id, key), old) = at_some slot_cmp slot_total same_slot staged (id, key) old found in
     let what : Staging = record { place = old.place; sectors = old.sectors; fill = fill } in
-    (staged_put size id staged ready.0 key what (ready.0.formed ((id, key), old) was) (λ k up. ready.0.parents ((id, key), old) was k up), placed_again size id staged ready.0 key what start next end entries ready.1 old found refl refl)
+    (staged_put size id staged ready.0 key what (ready.0.formed ((id, key), old) was) (λ k up. ready.0.parents ((id, key), old) was k up), both_again size id staged ready.0 key what start next end entries closed ready.1 old found refl refl)
+
+-- the record of an object has the object's size
+record_formed : (size : ℕ → ℕ) (object n : ℕ) → IsFormed size (record_key object 0) n → (n ≡ size object) × (1 ≤ object) × (object ≤ 2047)
+record_formed size object n formed = elim formed [
+  | root k is ↦ absurd (let rank : 1 ≡ 0 = ap (λ (x : Key). x.rank) k in omega (arith, rank))
+  | dnodes m to k is ↦ absurd (let rank : 1 ≡ 0 = ap (λ (x : Key). x.rank) k in omega (arith, rank))
+  | leaf m from to k is ↦ (let same : object ≡ m = ap (λ (x : Key). x.object) k in (is ∙ ap size (sym same), omega (arith, from, same), omega (arith, to, same)))
+]
+
+pub size_live : (size : ℕ → ℕ) (n object : ℕ) (entries : List (Key × Bp)) (bp : Bp) → AreFormed size n entries → bp_at entries (record_key object 0) ≡ Some bp → (bp.sectors ≡ size object) × (1 ≤ object) × (object ≤ 2047)
+size_live size n object entries bp formed found =
+    record_formed size object bp.sectors (formed.each (record_key object 0, bp) (at_some key_cmp key_total same_key entries (record_key object 0) bp found)).formed
+
+pub size_staged : (size : ℕ → ℕ) (id : DsId) (object : ℕ) (staged : List (Slot × Staging)) (what : Staging) → AreStaged size id staged → staged_at staged (id, record_key object 0) ≡ Some what → (what.sectors ≡ size object) × (1 ≤ object) × (object ≤ 2047)
+size_staged size id object staged what s found =
+    record_formed size object what.sectors (s.formed ((id, record_key object 0), what) (at_some slot_cmp slot_total same_slot staged (id, record_key object 0) what found))
 
 -- the size of an object without a record may be set
 resized_formed : (size : ℕ → ℕ) (object sectors : ℕ) (key : Key) (n : ℕ) → key ≢ record_key object 0 → IsFormed size key n → IsFormed (resized size object sectors) key n
@@ -138,9 +154,9 @@ resized_staged size object sectors id staged none s = record {
 }
 
 -- the record of a new object is staged, with the blocks above it
-pub make_staged : (size : ℕ → ℕ) (id : DsId) (start next end : ℕ) (entries : List (Key × Bp)) (staged : List (Slot × Staging)) (object sectors : ℕ) (fill : Option ℕ) → 1 ≤ object → object ≤ 2047 → staged_at staged (id, record_key object 0) ≡ None → after_above staged id object next + sectors ≤ end → AreReady size id start next end entries staged → AreReady (resized size object sectors) id start (after_above staged id object next + sectors) end entries (staged_with staged id object sectors fill next)
-make_staged size id start next end entries staged object sectors fill first last none fits ready =
-    write_staged (resized size object sectors) id start next end entries staged object last (resized_staged size object sectors id staged none ready.0, ready.1) sectors fill first (size_set size object sectors) fits
+pub make_staged : (size : ℕ → ℕ) (id : DsId) (start next end : ℕ) (entries : List (Key × Bp)) (closed staged : List (Slot × Staging)) (object sectors : ℕ) (fill : Option ℕ) → 1 ≤ object → object ≤ 2047 → staged_at staged (id, record_key object 0) ≡ None → after_above staged id object next + sectors ≤ end → AreReady size id start next end entries closed staged → AreReady (resized size object sectors) id start (after_above staged id object next + sectors) end entries closed (staged_with staged id object sectors fill next)
+make_staged size id start next end entries closed staged object sectors fill first last none fits ready =
+    write_staged (resized size object sectors) id start next end entries closed staged object last (resized_staged size object sectors id staged none ready.0, ready.1) sectors fill first (size_set size object sectors) fits
 
 -- it is a step of the machine
 pub is_make : (staged : List (Slot × Staging)) (id : DsId) (object sectors fill next : ℕ) → IsStagedWith staged id object sectors fill (staged_with staged id object sectors (Some fill) next)

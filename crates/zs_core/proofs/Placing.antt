@@ -17,7 +17,7 @@ use Rattle.zs_txg.specs.declared.staged.Staging.{Staging}
 use Rattle.zs_txg.specs.Txg.{Slot, slot_cmp, staged_at, put_staged}
 use Rattle.zs_txg.proofs.Entries.{sorted-insert_entry, lookup-insert_entry}
 use Rattle.zs_txg.proofs.Slots.{slot_total, same_slot}
-use Rattle.zs_core.specs.Placed.{IsFormed, AreFormed, AreStaged, Meet, LiesBetween, ArePlaced, sector_at}
+use Rattle.zs_core.specs.Placed.{IsFormed, AreFormed, AreStaged, Meet, LiesBetween, ArePlaced, AreBothPlaced, sector_at}
 use Rattle.zs_core.proofs.Inserting.{from_put, at_some}
 
 pub is_equal : (r : Ordering) → is_eq r ≡ true → r ≡ Equal
@@ -157,3 +157,51 @@ module _ (size : ℕ → ℕ) (id : DsId) (staged : List (Slot × Staging)) (s :
 
         as_old : (q : Place) (n : ℕ) → Meet what.place what.sectors q n → Meet old.place old.sectors q n
         as_old q n meet = subst (λ (w : Place). Meet w old.sectors q n) place (subst (λ (m : ℕ). Meet what.place m q n) sectors meet)
+
+-- what lies in a space lies in a longer one
+pub placed_wider : (start next later end : ℕ) (entries : List (Key × Bp)) (staged : List (Slot × Staging)) → ArePlaced start next end entries staged → next ≤ later → later ≤ end → ArePlaced start later end entries staged
+placed_wider start next later end entries staged p more fits = record {
+  begun = let from : start ≤ next = p.begun in omega (arith, from, more);
+  in_space = fits;
+  live = λ e h q i. wide q.place e.1.sectors (p.live e h q i);
+  new = λ e h. wide e.1.place e.1.sectors (p.new e h);
+  live_apart = p.live_apart;
+  new_apart = p.new_apart;
+  between = p.between;
+}
+  where
+    wide : (place : Place) (sectors : ℕ) → LiesBetween start next place sectors → LiesBetween start later place sectors
+    wide place sectors l = let to : place.sector + sectors ≤ next = l.to in record { mirror = l.mirror; from = l.from; to = omega (arith, to, more) }
+
+-- where no transaction group is closed, just what is staged in the open one has to lie apart
+pub none_closed : (start next end : ℕ) (entries : List (Key × Bp)) (staged : List (Slot × Staging)) → ArePlaced start next end entries staged → AreBothPlaced start next end entries [] staged
+none_closed start next end entries staged p = record { earlier = placed_alone start next end entries staged p; later = p; beside = λ e f h i meet. absurd h }
+
+-- a transaction group is closed, and nothing is staged in the next one
+pub now_closed : (start next end : ℕ) (entries : List (Key × Bp)) (staged : List (Slot × Staging)) → ArePlaced start next end entries staged → AreBothPlaced start next end entries staged []
+now_closed start next end entries staged p = record { earlier = p; later = placed_alone start next end entries staged p; beside = λ e f h i meet. absurd i }
+
+-- one block is staged in the open transaction group beside a closed one
+module _ (size : ℕ → ℕ) (id : DsId) (staged : List (Slot × Staging)) (s : AreStaged size id staged) (key : Key) (what : Staging) (start next end : ℕ) (entries : List (Key × Bp)) (closed : List (Slot × Staging)) (p : AreBothPlaced start next end entries closed staged) where
+  pub both_next : what.place ≡ sector_at next → next + what.sectors ≤ end → AreBothPlaced start (next + what.sectors) end entries closed (put_staged staged (id, key) what)
+  both_next is fits = record {
+    earlier = placed_wider start next (next + what.sectors) end entries closed p.earlier (omega arith) fits;
+    later = placed_next size id staged s key what start next end entries p.later is fits;
+    beside = λ e f h i meet. elim (from_new size id staged s key what f i) [
+      | inl x ↦ behind_all size id staged s key what start next end entries p.later e.1.place e.1.sectors is (p.earlier.new e h) (subst (λ (z : Slot × Staging). Meet z.1.place z.1.sectors e.1.place e.1.sectors) (sym x) meet)
+      | inr x ↦ p.beside e f h x.0 meet
+    ];
+  }
+
+  pub both_again : (old : Staging) → staged_at staged (id, key) ≡ Some old → what.place ≡ old.place → what.sectors ≡ old.sectors → AreBothPlaced start next end entries closed (put_staged staged (id, key) what)
+  both_again old found place sectors = record {
+    earlier = p.earlier;
+    later = placed_again size id staged s key what start next end entries p.later old found place sectors;
+    beside = λ e f h i meet. elim (from_new size id staged s key what f i) [
+      | inl x ↦ p.beside e ((id, key), old) h (at_some slot_cmp slot_total same_slot staged (id, key) old found) (as_old e.1.place e.1.sectors (subst (λ (z : Slot × Staging). Meet z.1.place z.1.sectors e.1.place e.1.sectors) (sym x) meet))
+      | inr x ↦ p.beside e f h x.0 meet
+    ];
+  }
+    where
+      as_old : (q : Place) (n : ℕ) → Meet what.place what.sectors q n → Meet old.place old.sectors q n
+      as_old q n meet = subst (λ (w : Place). Meet w old.sectors q n) place (subst (λ (m : ℕ). Meet what.place m q n) sectors meet)

@@ -93,6 +93,13 @@ pub record ArePlaced (start next end : ℕ) (entries : List (Key × Bp)) (staged
   pub new_apart : (e f : Slot × Staging) → Has staged e → Has staged f → Meet e.1.place e.1.sectors f.1.place f.1.sectors → e.0 ≡ f.0
   pub between : (e : Slot × Staging) (f : Key × Bp) → Has staged e → Has entries f → (p : Piece) → Has (pieces_of f.1) p → Meet e.1.place e.1.sectors p.place f.1.sectors → ⊥
 
+-- so lie the head, what is staged in the transaction group that is closed, and what is staged in the open one; and what
+-- is staged in one shares no sector with what is staged in the other
+pub record AreBothPlaced (start next end : ℕ) (entries : List (Key × Bp)) (closed staged : List (Slot × Staging)) : Type 0 where
+  pub earlier : ArePlaced start next end entries closed
+  pub later : ArePlaced start next end entries staged
+  pub beside : (e f : Slot × Staging) → Has closed e → Has staged f → Meet f.1.place f.1.sectors e.1.place e.1.sectors → ⊥
+
 -- a place on the first mirror
 abbrev pub sector_at : ℕ → Place
 sector_at sector = record { vdev = 0; sector = sector }
