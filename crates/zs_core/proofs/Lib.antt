@@ -6,6 +6,7 @@ pub mod Applying
 pub mod Applied
 pub mod Placing
 pub mod Making
+pub mod Covered
 pub mod Staged
 pub mod Put
 pub mod Walks
