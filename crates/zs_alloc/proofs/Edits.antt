@@ -1,9 +1,9 @@
 -- What an edit at one index does to rising ranges.
-use Rattle.std.proofs.Common.{◌≡◌, ◌≤◌, ◌<◌, ◌+◌, ◌-◌, ◌≢◌, ◌∙◌, ℕ, zero, suc, List, [], ◌∷◌, ◌++◌, length, get_or, set, take, drop, arith, refl, ap, sym, subst}
+use Rattle.std.proofs.Common.{◌≡◌, ◌≤◌, ◌<◌, ◌+◌, ◌≢◌, ◌∙◌, ℕ, zero, suc, List, [], ◌∷◌, ◌++◌, length, get_or, set, take, drop, arith, refl, ap, sym, subst}
 use Rattle.std.proofs.lemmas.List.{take-append-drop, drop_more, take_more, take-set, drop-set, take_more_set, drop-set-lt, length-append, length-set, length-take-le, get_or-set_same}
 use Rattle.std.proofs.Math.Seq.{take-append_seam, drop-append_seam}
 use Rattle.zs_alloc.specs.declared.free.Range.{Range}
-use Rattle.zs_alloc.specs.Free.{hits, free_count, RisesFrom, RisesUpTo, Holds, IsCut, IsPut, IsPlace, IsSeam, StartsAt}
+use Rattle.zs_alloc.specs.Free.{hits, free_count, RisesFrom, RisesUpTo, Holds, IsCut, IsPlace, IsSeam, StartsAt}
 use Rattle.zs_alloc.proofs.Counts.{hits_split, count_at, count_join}
 use Rattle.zs_alloc.proofs.Rises.{weaker, up_weaker, split, join, up_push, up_pop}
 

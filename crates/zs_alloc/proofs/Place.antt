@@ -1,9 +1,9 @@
 -- The place of a sector among rising ranges, as a binary search finds it.
-use Rattle.std.proofs.Common.{◌≡◌, ◌≤◌, ◌<◌, ◌+◌, ◌-◌, ◌∙◌, ◌⊎◌, ℕ, zero, suc, List, [], ◌∷◌, ◌++◌, length, get_or, take, drop, arith, refl, ap, sym, subst, inl, inr}
+use Rattle.std.proofs.Common.{◌≡◌, ◌≤◌, ◌<◌, ◌+◌, ◌⊎◌, ℕ, zero, suc, List, [], ◌∷◌, ◌++◌, length, get_or, take, drop, arith, sym, subst, inl, inr}
 use Rattle.std.specs.List.Sorted.{IsNonDecreasingBy}
 use Rattle.std.proofs.lemmas.List.{take-append-drop, get_or-drop, get_or-take, length-drop, length-take-le}
 use Rattle.zs_alloc.specs.declared.free.Range.{Range}
-use Rattle.zs_alloc.specs.Free.{hits, free_count, RisesFrom, RisesUpTo, AreTaken, IsPlace}
+use Rattle.zs_alloc.specs.Free.{free_count, RisesFrom, RisesUpTo, AreTaken, IsPlace}
 use Rattle.zs_alloc.proofs.Counts.{hits_in, where_is, count_join}
 use Rattle.zs_alloc.proofs.Rises.{up_front, back}
 use Rattle.zs_alloc.proofs.Search.{AtLeast}

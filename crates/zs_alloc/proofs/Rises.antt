@@ -1,8 +1,8 @@
 -- Rising ranges: a list of them as two parts, and what one part has.
-use Rattle.std.proofs.Common.{◌≡◌, ◌≤◌, ◌<◌, ◌+◌, ◌∙◌, ℕ, List, [], ◌∷◌, ◌++◌, length, get_or, arith, refl, ap, sym, subst}
+use Rattle.std.proofs.Common.{◌≡◌, ◌≤◌, ◌<◌, ◌+◌, ℕ, List, [], ◌∷◌, ◌++◌, arith, refl}
 use Rattle.zs_alloc.specs.declared.free.Range.{Range}
-use Rattle.zs_alloc.specs.Free.{hits, free_count, RisesFrom, RisesUpTo}
-use Rattle.zs_alloc.proofs.Counts.{hits_below, hits_above, hits_in}
+use Rattle.zs_alloc.specs.Free.{free_count, RisesFrom, RisesUpTo}
+use Rattle.zs_alloc.proofs.Counts.{hits_below}
 
 pub weaker : (rs : List Range) (low from : ℕ) → low ≤ from → RisesFrom from rs → RisesFrom low rs
 weaker [] low from le h = tt

@@ -1,10 +1,9 @@
 -- Where a run of free sectors lies in rising ranges.
 use Rattle.std.proofs.Common.{◌≡◌, ◌≤◌, ◌<◌, ◌+◌, ◌-◌, ◌∙◌, ◌⊎◌, ℕ, zero, suc, List, [], ◌∷◌, ◌++◌, length, get_or, take, drop, arith, refl, ap, sym, subst, inl, inr}
-use Rattle.std.specs.List.Sorted.{IsNonDecreasingBy}
-use Rattle.std.proofs.lemmas.List.{take-append-drop, take_more, take_all}
+use Rattle.std.proofs.lemmas.List.{take_more, take_all}
 use Rattle.zs_alloc.specs.declared.free.Range.{Range}
-use Rattle.zs_alloc.specs.Free.{hits, free_count, RisesFrom, RisesUpTo, Holds, AreFree, AreTaken, IsPlace, IsHolding, IsFirstFit}
-use Rattle.zs_alloc.proofs.Counts.{hits_in, hits_below, hits_above, where_is, count_join, count_at}
+use Rattle.zs_alloc.specs.Free.{hits, free_count, RisesFrom, RisesUpTo, Holds, AreFree, IsFirstFit}
+use Rattle.zs_alloc.proofs.Counts.{hits_in, hits_below, hits_above, where_is, count_at}
 use Rattle.zs_alloc.proofs.Rises.{none_below, split, reach}
 use Rattle.zs_alloc.proofs.Edits.{by_index}
 

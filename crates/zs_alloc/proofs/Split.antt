@@ -1,19 +1,18 @@
 -- A mirror's space as free and taken ranges, when one of them goes over to the others.
-use Rattle.std.proofs.Common.{◌≡◌, ◌≤◌, ◌<◌, ◌+◌, ◌-◌, ◌∙◌, ◌⊎◌, ℕ, Bool, true, false, true≢false, ◌&&◌, ◌||◌, ◌==◌, cond, List, [], ◌∷◌, ◌++◌, length, map, Option, Some, None, arith, refl, ap, sym, subst, inl, inr}
+use Rattle.std.proofs.Common.{◌≡◌, ◌≤◌, ◌<◌, ◌+◌, ◌-◌, ◌⊎◌, ℕ, Bool, true, false, true≢false, ◌&&◌, ◌||◌, cond, List, [], ◌∷◌, length, Option, Some, None, arith, refl, ap, sym, inl, inr}
 use Rattle.std.specs.Prelude.{not}
 use Rattle.std.specs.List.{list_any}
 use Rattle.std.specs.Ordering.{nat_cmp, is_eq, match_ordering}
 use Rattle.std.specs.declared.cmp.Ordering.{Ordering}
 use Rattle.std.specs.declared.cmp.Ordering.TheVariants.{Less, Equal, Greater}
-use Rattle.std.specs.Map.{keys_of, lookup, remove_entry}
-use Rattle.std.specs.BTreeMap.{is_at}
+use Rattle.std.specs.Map.{keys_of}
 use Rattle.std.specs.List.Sorted.{IsStrictlySortedBy}
 use Rattle.std.proofs.lemmas.Map.Lookups.{exact_unsigned}
 use Rattle.zs_alloc.specs.declared.free.Range.{Range}
 use Rattle.zs_alloc.specs.declared.taken.Taken.{Taken}
-use Rattle.zs_alloc.specs.Free.{RisesFrom, free_count, hits, is_within, AreFree, AreTaken, IsCut, IsPut}
-use Rattle.zs_alloc.specs.Kept.{IsSplit, taken_count, AreSome}
-use Rattle.zs_alloc.specs.Space.{MirrorView, covers, is_free, IsFreeRun, HasNoRun, IsLowestRun, taken_at, fresh, with_range, without_range}
+use Rattle.zs_alloc.specs.Free.{free_count, hits, is_within, AreFree, AreTaken, IsCut, IsPut}
+use Rattle.zs_alloc.specs.Kept.{IsSplit, taken_count, AreSome, AreKept}
+use Rattle.zs_alloc.specs.Space.{MirrorView, covers, is_free, IsFreeRun, taken_at, fresh, with_range, without_range, is_over}
 use Rattle.zs_alloc.proofs.Counts.{hits_in, hits_below, hits_above, where_is}
 
 is_equal : (r : Ordering) → is_eq r ≡ true → r ≡ Equal
@@ -73,6 +72,23 @@ some_remove_step k e es false all ih = (all.0, ih)
 pub some_remove : (es : List (ℕ × Taken)) (k : ℕ) → AreSome es → AreSome (without_range es k)
 some_remove [] k all = tt
 some_remove (e ∷ es) k all = some_remove_step k e es (is_eq (nat_cmp k e.0)) all (some_remove es k all.1)
+
+kept_insert_step : (k : ℕ) (v : Taken) (e : ℕ × Taken) (es : List (ℕ × Taken)) (r : Ordering) → is_over v ≡ false → AreKept (e ∷ es) → AreKept (with_range es k v) → AreKept (match_ordering r ((k, v) ∷ e ∷ es) ((e.0, v) ∷ es) (e ∷ with_range es k v))
+kept_insert_step k v e es Less over all ih = (over, all)
+kept_insert_step k v e es Equal over all ih = (over, all.1)
+kept_insert_step k v e es Greater over all ih = (all.0, ih)
+
+pub kept_insert : (es : List (ℕ × Taken)) (k : ℕ) (v : Taken) → is_over v ≡ false → AreKept es → AreKept (with_range es k v)
+kept_insert [] k v over all = (over, tt)
+kept_insert (e ∷ es) k v over all = kept_insert_step k v e es (nat_cmp k e.0) over all (kept_insert es k v over all.1)
+
+kept_remove_step : (k : ℕ) (e : ℕ × Taken) (es : List (ℕ × Taken)) (b : Bool) → AreKept (e ∷ es) → AreKept (without_range es k) → AreKept (cond b es (e ∷ without_range es k))
+kept_remove_step k e es true all ih = all.1
+kept_remove_step k e es false all ih = (all.0, ih)
+
+pub kept_remove : (es : List (ℕ × Taken)) (k : ℕ) → AreKept es → AreKept (without_range es k)
+kept_remove [] k all = tt
+kept_remove (e ∷ es) k all = kept_remove_step k e es (is_eq (nat_cmp k e.0)) all (kept_remove es k all.1)
 
 some_at_step : (k : ℕ) (v : Taken) (e : ℕ × Taken) (es : List (ℕ × Taken)) (b : Bool) → cond b (Some e.1) (taken_at es k) ≡ Some v → AreSome (e ∷ es) → (taken_at es k ≡ Some v → 0 < v.sectors) → 0 < v.sectors
 some_at_step k v e es true there all ih = let value : e.1 ≡ v = cc in rw (← value) all.0
@@ -198,6 +214,7 @@ module _ (start end : ℕ) (free : List Range) (taken : List (ℕ × Taken)) (ca
           let less = count_remove taken a v s there in
           rw is (omega arith);
       some = rw is (some_remove taken a split.some);
+      kept = rw is (kept_remove taken a split.kept);
       sorted = sorted;
       room =
           let had = split.room in
@@ -223,6 +240,7 @@ module _ (start end : ℕ) (free : List Range) (taken : List (ℕ × Taken)) (ca
             let more = count_insert taken a (fresh n) s absent in
             rw is (omega arith);
         some = rw is (some_insert taken a (fresh n) some split.some);
+        kept = rw is (kept_insert taken a (fresh n) refl split.kept);
         sorted = sorted;
         room = room;
       }
@@ -233,6 +251,7 @@ split_empty start end capacity le = record {
   rises = tt;
   parts = λ s. sym (nowhere s (where_is start end s));
   some = tt;
+  kept = tt;
   sorted = tt;
   room = omega arith;
 }
@@ -248,6 +267,7 @@ split_whole start end capacity lt room = record {
   rises = (omega arith, lt, tt);
   parts = λ s. omega arith;
   some = tt;
+  kept = tt;
   sorted = tt;
   room = omega arith;
 }

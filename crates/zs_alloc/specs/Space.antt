@@ -1,7 +1,7 @@
 -- The space of a mirror: its taken ranges, and what is free beside them.
-use Rattle.std.specs.Prelude.{◌≡◌, ◌<◌, ◌≤◌, ◌+◌, ◌-◌, ◌==◌, ℕ, Bool, true, false, ◌&&◌, not, nat_le, if◌then◌else◌, List, [], ◌∷◌, map, filter, Option, Some, None, slice_index_or, slice_set}
+use Rattle.std.specs.Prelude.{◌≡◌, ◌<◌, ◌≤◌, ◌+◌, ◌-◌, ◌==◌, ℕ, Bool, true, false, ◌&&◌, not, nat_le, if◌then◌else◌, List, [], map, filter, Option, Some, slice_index_or, slice_set, option_map, unwrap_or}
 use Rattle.std.specs.List.{list_any}
-use Rattle.std.specs.Ordering.{nat_cmp}
+use Rattle.std.specs.Ordering.{nat_cmp, is_eq}
 use Rattle.std.specs.Map.{lookup, remove_entry}
 use Rattle.std.specs.BTreeMap.{insert_entry, is_at}
 use Rattle.zs_alloc.specs.declared.taken.Taken.{Taken}
@@ -72,6 +72,67 @@ with_range taken first e = insert_entry nat_cmp taken first e
 abbrev pub without_range : List (ℕ × Taken) → ℕ → List (ℕ × Taken)
 without_range taken first = remove_entry (is_at (nat_cmp first)) taken
 
+-- the taken range begins there
+abbrev pub is_from : ℕ → ℕ × Taken → Bool
+is_from first e = is_eq (nat_cmp first e.0)
+
 -- with the range that is taken from `first` on changed
 abbrev pub changed : ℕ → (Taken → Taken) → List (ℕ × Taken) → List (ℕ × Taken)
-changed first f taken = map (λ e. (e.0, if e.0 == first then f e.1 else e.1)) taken
+changed first f taken = map (λ e. (e.0, if is_from first e then f e.1 else e.1)) taken
+
+-- with one pin more, with one less, and freed in a transaction group
+abbrev pub pinned : Taken → Taken
+pinned e = record e { pins = e.pins + 1 }
+
+abbrev pub unpinned : Taken → Taken
+unpinned e = record e { pins = e.pins - 1 }
+
+abbrev pub freed_in : ℕ → Taken → Taken
+freed_in t e = record e { freed = In t }
+
+-- what was freed in the transaction group or in one before is settled
+abbrev pub settled_by : ℕ → Freed → Freed
+settled_by t Not = Not
+settled_by t (In u) = if nat_le u t then Settled else In u
+settled_by t Settled = Settled
+
+abbrev pub settled : ℕ → Taken → Taken
+settled t e = record e { freed = settled_by t e.freed }
+
+-- a range is over where it was freed, that is settled, and no pin is on it
+abbrev pub is_settled : Freed → Bool
+is_settled Not = false
+is_settled (In u) = false
+is_settled Settled = true
+
+abbrev pub is_over : Taken → Bool
+is_over e = is_settled e.freed && e.pins == 0
+
+-- without the ranges that are over: these are free
+abbrev pub still_taken : List (ℕ × Taken) → List (ℕ × Taken)
+still_taken taken = filter (λ e. not (is_over e.1)) taken
+
+-- what is taken once a transaction group is settled
+abbrev pub settled_all : ℕ → List (ℕ × Taken) → List (ℕ × Taken)
+settled_all t taken = still_taken (map (λ e. (e.0, settled t e.1)) taken)
+
+-- a mirror once a transaction group is settled
+abbrev pub settled_mirror : ℕ → MirrorView → MirrorView
+settled_mirror t m = record m { taken = settled_all t m.taken }
+
+-- how many pins are on the range that is taken from `first` on
+abbrev pub pins_at : List (ℕ × Taken) → ℕ → ℕ
+pins_at taken first = unwrap_or (option_map (λ e. e.pins) (taken_at taken first)) 0
+
+-- a range of n sectors is taken from `first` on
+pub record IsTaken (taken : List (ℕ × Taken)) (first n : ℕ) : Type 0 where
+  pub range : Taken
+  pub there : taken_at taken first ≡ Some range
+  pub size : range.sectors ≡ n
+
+-- a range of n sectors is taken from `first` on and was not freed
+pub record IsInUse (taken : List (ℕ × Taken)) (first n : ℕ) : Type 0 where
+  pub range : Taken
+  pub there : taken_at taken first ≡ Some range
+  pub size : range.sectors ≡ n
+  pub used : range.freed ≡ Not

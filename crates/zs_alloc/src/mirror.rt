@@ -1,44 +1,42 @@
 //! The space of one mirror.
 
-ghost use Rattle.std.specs.Prelude.{◌≡◌, ◌<◌, ◌≤◌, ◌+◌, [], ℕ, length, vec_len, vec_capacity, IfOk, IfErr, OnOk, OnErr, Some, None};
-ghost use Rattle.std.specs.Map.{keys_of};
-ghost use Rattle.std.specs.Ordering.{nat_cmp};
-ghost use Rattle.std.specs.List.Sorted.{IsStrictlySortedBy};
-ghost use Rattle.zs_alloc.specs.declared.taken.Freed.TheVariants.{Not};
-ghost use Rattle.zs_alloc.specs.Kept.{IsSplit};
-ghost use Rattle.zs_alloc.specs.Free.{RisesFrom, AreTaken, Holds, IsCut, IsPut};
-ghost use Rattle.zs_alloc.specs.Space.{taken_at, fresh, with_range, without_range, HasNoRun, IsLowestRun, IsFreeRun, NoSpaceWhere};
+ghost use Rattle.std.specs.Prelude.{◌≡◌, ◌<◌, ◌≤◌, [], ℕ, List, map, take, IfOk, IfErr, OnOk, OnErr, IsOk, IsSome, Some, filter, nat_lt};
+ghost use Rattle.zs_alloc.specs.declared.fault.SpaceFault.TheVariants.{Memory};
+ghost use Rattle.zs_alloc.specs.Space.{taken_at, fresh, with_range, without_range, HasNoRun, IsLowestRun, IsFreeRun, NoSpaceWhere, changed, freed_in, pinned, unpinned, still_taken, settled, settled_all, pins_at};
+ghost use Rattle.zs_alloc.specs.Kept.{AreKept, settled_if, is_due};
 
 use crate::fault::SpaceFault;
-use crate::free::{Range, cut, first_fit, holding, put};
+use crate::ranges::Ranges;
 use crate::taken::{Freed, Taken};
 use std::alloc::{AllocError, Global};
-use std::collections::BTreeMap;
 use std::marker::Model;
 
-/// The space of one mirror. Contracts see its ends and its taken ranges; what is free beside these it keeps as well.
+/// A range that was freed in a transaction group.
+#[derive(Clone, Copy, Debug)]
+pub(crate) struct Freeing {
+    /// The transaction group.
+    txg: u64,
+    /// The range's first sector.
+    sector: u32,
+}
+
+/// The space of one mirror. Contracts see its ranges.
 #[derive(Drop)]
 pub(crate) struct Mirror {
-    /// The first sector.
-    start: u32,
-    /// The sector behind the last one.
-    end: u32,
-    /// The free ranges, with room for one more in the place of each taken range.
-    free: Vec<Range>,
-    /// The taken ranges by their first sectors.
-    taken: BTreeMap<u32, Taken>,
+    ranges: Ranges,
+    /// What was freed and is not settled.
+    waiting: Vec<Freeing>,
 }
 
 impl Model for Mirror {
-    ghost use Rattle.std.specs.Prelude.{vec_capacity};
     ghost use Rattle.zs_alloc.specs.Space.{MirrorView};
-    ghost use Rattle.zs_alloc.specs.Kept.{IsSplit};
+    ghost use Rattle.zs_alloc.specs.Kept.{AreListed};
 
     ghost Value = { MirrorView };
 
-    ghost view = { λ m. record { start = m.start; end = m.end; taken = m.taken.entries } };
+    ghost view = { λ m. m.ranges };
 
-    ghost invariant = { λ m. IsSplit m.start m.end m.free.items m.taken.entries (vec_capacity m.free) };
+    ghost invariant = { λ m. AreListed m.waiting.items m.ranges.taken };
 }
 
 impl Mirror {
@@ -46,12 +44,10 @@ impl Mirror {
     pub(crate) fn new(alloc: Global, start: u32, end: u32) -> Result<Self, AllocError>
         ensures { IfOk result (λ m. m ≡ record { start = start; end = end; taken = [] }) }
     {
-        let free = whole(alloc, start, end)?;
+        let ranges = Ranges::new(alloc, start, end)?;
         Ok(Mirror {
-            start,
-            end,
-            free,
-            taken: BTreeMap::new(alloc),
+            ranges,
+            waiting: Vec::new(alloc),
         })
     }
 
@@ -63,13 +59,7 @@ impl Mirror {
         ensures refused { IfErr result (NoSpaceWhere (HasNoRun self.old sectors)) }
         ensures err { OnErr result (self.new ≡ self.old) }
     {
-        let size = u32::from(sectors);
-        let Some((index, first)) = first_fit(&self.free, size) else {
-            return Err(SpaceFault::NoSpace);
-        };
-        let Ok(()) = occupy(&mut self.free, &mut self.taken, index, first, sectors) else {
-            return Err(SpaceFault::Memory);
-        };
+        let first = self.ranges.take(sectors)?;
         Ok(first)
     }
 
@@ -81,16 +71,7 @@ impl Mirror {
         ensures refused { IfErr result (NoSpaceWhere (IsFreeRun self.old first sectors → ⊥)) }
         ensures err { OnErr result (self.new ≡ self.old) }
     {
-        let size = u32::from(sectors);
-        if self.end.saturating_sub(size) < first {
-            return Err(SpaceFault::NoSpace);
-        }
-        let Some(index) = holding(&self.free, first, first + size) else {
-            return Err(SpaceFault::NoSpace);
-        };
-        let Ok(()) = occupy(&mut self.free, &mut self.taken, index, first, sectors) else {
-            return Err(SpaceFault::Memory);
-        };
+        self.ranges.claim(first, sectors)?;
         Ok(())
     }
 
@@ -99,69 +80,97 @@ impl Mirror {
         requires { taken_at self.old.taken first ≡ Some (fresh sectors) }
         ensures { self.new ≡ record self.old { taken = without_range self.old.taken first } }
     {
-        let _end = self.end;
-        release(&mut self.free, &mut self.taken, first, sectors);
+        self.ranges.give(first, sectors);
+    }
+
+    /// Marks a taken range as freed in a transaction group.
+    pub(crate) fn free(&mut self, first: u32, t: u64) -> Result<(), AllocError>
+        requires { IsSome (taken_at self.old.taken first) }
+        ensures ok { OnOk result (self.new ≡ record self.old { taken = changed first (freed_in t) self.old.taken }) }
+        ensures err { OnErr result (self.new ≡ self.old) }
+    {
+        self.waiting.reserve(1)?;
+        let Some(range) = self.ranges.range(first) else {
+            unreachable!();
+        };
+        let freed = Taken {
+            freed: Freed::In(t),
+            ..range
+        };
+        self.ranges.update(first, freed);
+        self.waiting.push_reserved(Freeing {
+            txg: t,
+            sector: first,
+        });
+        Ok(())
+    }
+
+    /// Puts a pin on a taken range.
+    pub(crate) fn pin(&mut self, first: u32) -> Result<(), SpaceFault>
+        requires { IsSome (taken_at self.old.taken first) }
+        ensures ok { OnOk result (self.new ≡ record self.old { taken = changed first pinned self.old.taken }) }
+        ensures err { OnErr result (self.new ≡ self.old) }
+        ensures memory { IfErr result (λ fault. fault ≡ Memory) }
+        ensures succeeds { pins_at self.old.taken first < 18446744073709551615 → IsOk result }
+    {
+        let Some(range) = self.ranges.range(first) else {
+            unreachable!();
+        };
+        let Some(pins) = range.pins.checked_add(1) else {
+            return Err(SpaceFault::Memory);
+        };
+        self.ranges.update(first, Taken { pins, ..range });
+        Ok(())
+    }
+
+    /// Takes a pin off a taken range.
+    pub(crate) fn unpin(&mut self, first: u32)
+        requires { 1 ≤ pins_at self.old.taken first }
+        ensures { self.new ≡ record self.old { taken = still_taken (changed first unpinned self.old.taken) } }
+    {
+        let Some(range) = self.ranges.range(first) else {
+            unreachable!();
+        };
+        let unpinned = Taken {
+            pins: range.pins - 1,
+            ..range
+        };
+        self.ranges.update(first, unpinned);
+    }
+
+    /// Settles what was freed in the transaction group or before.
+    pub(crate) fn settle(&mut self, t: u64)
+        ensures { self.new ≡ record self.old { taken = settled_all t self.old.taken } }
+    {
+        self.ranges.facts();
+        settle_waiting(&mut self.ranges, &self.waiting, t);
+        self.waiting.retain(|w| w.txg > t);
     }
 }
 
-/// The free ranges of a space that is all free.
-fn whole(alloc: Global, start: u32, end: u32) -> Result<Vec<Range>, AllocError>
-    ensures { IfOk result (λ v. IsSplit start end v.items [] (vec_capacity v)) }
+/// Settles the ranges of the list that were freed in the transaction group or before.
+fn settle_waiting(ranges: &mut Ranges, waiting: &[Freeing], t: u64)
+    requires { AreKept ranges.old.taken }
+    ensures { ranges.new ≡ record ranges.old { taken = settled_if (is_due waiting.now t) t ranges.old.taken } }
 {
-    let mut free = Vec::with_capacity(alloc, 1)?;
-    if end <= start {
-        return Ok(free);
+    for freeing in waiting {
+        if freeing.txg <= t {
+            settle_range(ranges, freeing.sector, t);
+        }
     }
-    free.push_reserved(Range { first: start, end });
-    Ok(free)
 }
 
-/// Takes the sectors from `first` on out of the free range at the index, which has them.
-fn occupy(
-    free: &mut Vec<Range>,
-    taken: &mut BTreeMap<u32, Taken>,
-    index: usize,
-    first: u32,
-    sectors: u16,
-) -> Result<(), AllocError>
-    requires rises { RisesFrom 0 free.old.items }
-    requires holds { Holds free.old.items index first (first + sectors) }
-    requires some { 0 < sectors }
-    requires fits { first + sectors < 4294967296 }
-    ensures free { OnOk result (IsCut free.old.items first (first + sectors) free.new.items) }
-    ensures taken { OnOk result (taken.new.entries ≡ with_range taken.old.entries first (fresh sectors)) }
-    ensures ordered { IsStrictlySortedBy nat_cmp (keys_of taken.new.entries) }
-    ensures room { OnOk result (length free.new.items + length taken.new.entries ≤ vec_capacity free.new) }
-    ensures capacity { vec_capacity free.old ≤ vec_capacity free.new }
-    ensures err { OnErr result ((free.new.items ≡ free.old.items) × (taken.new.entries ≡ taken.old.entries)) }
+/// Settles the range that is taken from `first` on, where it was freed in the transaction group or before.
+fn settle_range(ranges: &mut Ranges, first: u32, t: u64)
+    ensures { ranges.new ≡ record ranges.old { taken = still_taken (changed first (settled t) ranges.old.taken) } }
 {
-    let Some(room) = taken.len().checked_add(2) else {
-        return Err(AllocError);
+    ranges.facts();
+    let Some(range) = ranges.range(first) else {
+        return;
     };
-    free.reserve(room)?;
-    let range = Taken {
-        sectors,
-        pins: 0,
-        freed: Freed::Not,
+    let settled = Taken {
+        freed: range.freed.settled(t),
+        ..range
     };
-    taken.insert(first, range)?;
-    cut(free, index, first, first + u32::from(sectors));
-    Ok(())
-}
-
-/// Puts a taken range among the free ones.
-fn release(free: &mut Vec<Range>, taken: &mut BTreeMap<u32, Taken>, first: u32, sectors: u16)
-    requires rises { RisesFrom 0 free.old.items }
-    requires covered { AreTaken free.old.items first (first + sectors) }
-    requires some { 0 < sectors }
-    requires fits { first + sectors < 4294967296 }
-    requires room { vec_len free.old < vec_capacity free.old }
-    ensures free { IsPut free.old.items first (first + sectors) free.new.items }
-    ensures few { vec_len free.new ≤ vec_len free.old + 1 }
-    ensures taken { taken.new.entries ≡ without_range taken.old.entries first }
-    ensures ordered { IsStrictlySortedBy nat_cmp (keys_of taken.new.entries) }
-    ensures capacity { vec_capacity free.old ≤ vec_capacity free.new }
-{
-    taken.remove(&first);
-    put(free, first, first + u32::from(sectors));
+    ranges.update(first, settled);
 }

@@ -1,13 +1,14 @@
 //! The space of all mirrors.
 
-ghost use Rattle.std.specs.Prelude.{◌≡◌, ◌<◌, ◌≤◌, [], ℕ, length, map, IfOk, IfErr, OnOk, OnErr, Some};
-ghost use Rattle.zs_alloc.specs.Space.{mirror_at, with_taken, with_range, without_range, taken_at, fresh, HasNoRun, IsFreeRun, IsLowestRun, NoSpaceWhere};
+ghost use Rattle.std.specs.Prelude.{◌≡◌, ◌<◌, ◌≤◌, [], ℕ, length, map, IfOk, IfErr, OnOk, OnErr, IsOk, Some};
+ghost use Rattle.zs_alloc.specs.declared.fault.SpaceFault.TheVariants.{Memory};
+ghost use Rattle.zs_alloc.specs.Space.{mirror_at, with_taken, with_range, without_range, taken_at, fresh, HasNoRun, IsFreeRun, IsLowestRun, NoSpaceWhere, IsInUse, IsTaken, changed, freed_in, pinned, unpinned, still_taken, settled_mirror, pins_at};
 
 use crate::fault::SpaceFault;
 use crate::mirror::Mirror;
 use std::alloc::{AllocError, Global};
 use std::marker::Model;
-use zs_ids::Place;
+use zs_ids::{Item, Piece, Place};
 
 /// The space of all mirrors. Contracts see per mirror its ends and its taken ranges; what none of these has is free.
 #[derive(Drop)]
@@ -74,5 +75,69 @@ impl Space {
     {
         let mirror = &mut self.mirrors[usize::from(place.vdev)];
         mirror.give(place.sector, sectors);
+    }
+
+    /// Frees the range of an item in the transaction group `t`. It stays taken until that group is settled and no
+    /// pin is on it. After want of memory nothing has changed. The item's range is in use: it was taken whole, and
+    /// was not freed before; it may be pinned.
+    pub fn free(&mut self, item: &Item, t: u64) -> Result<(), SpaceFault>
+        requires vdev { item.now.piece.place.vdev < length self.old }
+        requires used { IsInUse (mirror_at self.old item.now.piece.place.vdev).taken item.now.piece.place.sector item.now.sectors }
+        ensures ok { OnOk result (self.new ≡ with_taken item.now.piece.place.vdev (changed item.now.piece.place.sector (freed_in t)) self.old) }
+        ensures err { OnErr result (self.new ≡ self.old) }
+        ensures memory { IfErr result (λ fault. fault ≡ Memory) }
+    {
+        let place = item.piece.place;
+        let mirror = &mut self.mirrors[usize::from(place.vdev)];
+        mirror.free(place.sector, t)?;
+        Ok(())
+    }
+
+    /// Makes sure that the next `n` calls of `pin` find memory. None of them needs any, since the count of a range's
+    /// pins lies beside its size, so this has nothing to do.
+    pub fn reserve_pins(&mut self, _n: usize) -> Result<(), SpaceFault>
+        ensures same { self.new ≡ self.old }
+        ensures succeeds { IsOk result }
+    {
+        Ok(())
+    }
+
+    /// Puts a pin on the range of an item. It takes no memory; `Memory` is answered only where the range has as
+    /// many pins as can be counted, which is 18,446,744,073,709,551,615, and then nothing has changed. The item's
+    /// range is taken; it may be freed and settled, where another pin is on it.
+    pub fn pin(&mut self, item: &Item) -> Result<(), SpaceFault>
+        requires vdev { item.now.piece.place.vdev < length self.old }
+        requires taken { IsTaken (mirror_at self.old item.now.piece.place.vdev).taken item.now.piece.place.sector item.now.sectors }
+        ensures ok { OnOk result (self.new ≡ with_taken item.now.piece.place.vdev (changed item.now.piece.place.sector pinned) self.old) }
+        ensures err { OnErr result (self.new ≡ self.old) }
+        ensures memory { IfErr result (λ fault. fault ≡ Memory) }
+        ensures succeeds { pins_at (mirror_at self.old item.now.piece.place.vdev).taken item.now.piece.place.sector < 18446744073709551615 → IsOk result }
+    {
+        let place = item.piece.place;
+        let mirror = &mut self.mirrors[usize::from(place.vdev)];
+        mirror.pin(place.sector)
+    }
+
+    /// Takes one pin off the range of a piece. Where that was the last one of a range that was freed and is settled,
+    /// the range is free. Takes no memory. The range is pinned.
+    pub fn unpin(&mut self, piece: Piece)
+        requires vdev { piece.place.vdev < length self.old }
+        requires pinned { 1 ≤ pins_at (mirror_at self.old piece.place.vdev).taken piece.place.sector }
+        ensures { self.new ≡ with_taken piece.place.vdev (λ taken. still_taken (changed piece.place.sector unpinned taken)) self.old }
+    {
+        let mirror = &mut self.mirrors[usize::from(piece.place.vdev)];
+        mirror.unpin(piece.place.sector);
+    }
+
+    /// Settles the transaction group `t`: what was freed in it or in one before is free from now on, or from where
+    /// its last pin goes. It takes no memory, and is never refused.
+    pub fn settle(&mut self, t: u64) -> Result<(), SpaceFault>
+        ensures settled { self.new ≡ map (settled_mirror t) self.old }
+        ensures succeeds { IsOk result }
+    {
+        for index in 0..self.mirrors.len() {
+            self.mirrors[index].settle(t);
+        }
+        Ok(())
     }
 }

@@ -1,4 +1,4 @@
-use Rattle.std.proofs.Common.{◌≡◌, ◌∙◌, refl, arith}
+use Rattle.std.proofs.Common.{refl, arith}
 use Rattle.zs_alloc.proofs.Edits.{apart_rises, merged_rises, merged_count}
 use Rattle.zs_alloc.proofs.free.close_gap.Goals as goal
 

@@ -1,4 +1,4 @@
-use Rattle.std.proofs.Common.{◌≡◌, ◌<◌, arith, length}
+use Rattle.std.proofs.Common.{arith}
 use Rattle.zs_alloc.proofs.Search.{fits_at, first_at, short_more, all_short, no_fit}
 use Rattle.zs_alloc.proofs.free.first_fit.Goals as goal
 

@@ -1,7 +1,7 @@
 use Rattle.std.proofs.Common.{◌≡◌, true, refl, rules, subst}
 use Rattle.zs_alloc.specs.Free.{StartsAt}
 use Rattle.std.specs.Prelude.{is_ok}
-use Rattle.zs_alloc.proofs.Edits.{put_new, put_count, put_next, put_next_count}
+use Rattle.zs_alloc.proofs.Edits.{put_count, put_next_count}
 use Rattle.zs_alloc.proofs.free.put_at.Goals as goal
 
 pub returns-clause-count : goal.returns-clause-count

@@ -1,5 +1,4 @@
 use Rattle.std.proofs.Common.{◌≡◌, map, take, []}
-use Rattle.zs_alloc.specs.Space.{Mirrors}
 use Rattle.zs_alloc.proofs.space.Space.new.Given as goal
 
 abbrev pub invariant-loop-end : goal.invariant-loop-end

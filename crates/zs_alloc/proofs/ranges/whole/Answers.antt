@@ -1,6 +1,6 @@
 use Rattle.std.proofs.Common.{arith}
 use Rattle.zs_alloc.proofs.Split.{split_empty, split_whole}
-use Rattle.zs_alloc.proofs.mirror.whole.Goals as goal
+use Rattle.zs_alloc.proofs.ranges.whole.Goals as goal
 
 pub returns : goal.returns
 returns c = rw (c.push_reserved.ensures.items, c.in_ok-free.ensures.items) (split_whole _ _ _ (omega arith) (omega arith))
