@@ -1,0 +1,5 @@
+pub mod Tests
+pub mod AheadTests
+pub mod Below
+pub mod TurnTests
+pub mod SoundTests
