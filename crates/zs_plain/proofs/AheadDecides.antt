@@ -1,10 +1,10 @@
 -- The tests of what is ahead, and of what a state covers, decide it.
-use Rattle.std.proofs.Common.{◌≡◌, ◌⊎◌, ◌<◌, ◌≤◌, ◌↔◌, ℕ, Bool, true, false, not, ◌&&◌, ◌||◌, List, [], ◌∷◌, refl, sym, ap, subst, ◌∙◌, nat_lt, IsTrue}
+use Rattle.std.proofs.Common.{◌≡◌, ◌⊎◌, ◌<◌, ◌≤◌, ◌↔◌, ℕ, Bool, true, not, ◌&&◌, ◌||◌, List, sym, ap, subst, ◌∙◌, nat_lt, IsTrue}
 use Rattle.std.specs.Prelude.{nat_le}
 use Rattle.std.specs.Bool.{Decides}
 use Rattle.std.specs.List.{list_any, list_all}
 use Rattle.std.specs.Ordering.{is_le}
-use Rattle.std.proofs.lemmas.Bool.{true≢false, and_parts, and_from, or_cases, or_left, or_right, ltb-true, lt-ltb, leb-true, le-leb}
+use Rattle.std.proofs.lemmas.Bool.{true≢false, and_parts, and_from, ltb-true, lt-ltb, leb-true, le-leb}
 use Rattle.std.proofs.lemmas.Bool.Decides.{Decides-and, Decides-or, Decides-ltb}
 use Rattle.zs_ids.specs.declared.key.Key.{Key}
 use Rattle.zs_ids.specs.declared.block.Bp.{Bp}
@@ -12,7 +12,7 @@ use Rattle.zs_ids.specs.declared.block.Piece.{Piece}
 use Rattle.zs_ids.specs.declared.dataset.DsId.{DsId}
 use Rattle.zs_ids.specs.Key.{key_cmp}
 use Rattle.zs_ids.specs.Graph.{Has, Dataset, Graph, pieces_of}
-use Rattle.zs_ids.specs.GraphTree.{is_id, start_of, IsHome}
+use Rattle.zs_ids.specs.GraphTree.{is_id, start_of}
 use Rattle.zs_phys.specs.declared.scope.Scope.{Scope}
 use Rattle.zs_phys.specs.declared.phys.Phys.{Phys}
 use Rattle.zs_phys.specs.declared.phys.At.{At}
@@ -27,7 +27,7 @@ use Rattle.zs_cover.proofs.States.{at≢nowhere, at≢destroyed, at_id, at_key}
 use Rattle.zs_plain.specs.Tests.{has_id, has_piece}
 use Rattle.zs_plain.specs.Below.{IsBelow}
 use Rattle.zs_plain.specs.AheadTests.{is_queued, is_passing, is_ahead, is_covered_entry, is_covered_dataset, is_covering}
-use Rattle.zs_plain.proofs.Decide.{like, itself, implies, at_most, some-of, each-of, same_id, has_id-is}
+use Rattle.zs_plain.proofs.Decide.{like, itself, implies, some-of, each-of, same_id, has_id-is}
 use mathlib.Core.Logic.{inl, inr}
 
 -- the state is at the dataset

@@ -1,12 +1,12 @@
 -- What the lists of this crate's loops hold: live pieces, and homes.
-use Rattle.std.proofs.Common.{◌≡◌, ◌≢◌, ◌<◌, ◌↔◌, ℕ, Bool, true, false, List, [], ◌∷◌, ◌++◌, refl, sym, ap, subst, ◌∙◌, Option, Some, None, find, flat_map, nat_lt, length, get_or, take, ◌+◌}
+use Rattle.std.proofs.Common.{◌≡◌, ◌<◌, ◌↔◌, ℕ, List, [], ◌∷◌, refl, sym, ap, subst, ◌∙◌, Option, Some, None, find, flat_map, nat_lt, length, get_or, take, ◌+◌}
 use Rattle.std.proofs.lemmas.Bool.{and_parts, and_from, ltb-true, lt-ltb, true≢false}
 use Rattle.zs_ids.specs.declared.key.Key.{Key}
 use Rattle.zs_ids.specs.declared.block.Bp.{Bp}
 use Rattle.zs_ids.specs.declared.block.Piece.{Piece}
 use Rattle.zs_ids.specs.declared.dataset.DsId.{DsId}
 use Rattle.zs_ids.specs.Graph.{Has, Dataset, Graph, IsLive, pieces_of}
-use Rattle.zs_ids.specs.GraphTree.{IsHome, IsHomeOf, start_of}
+use Rattle.zs_ids.specs.GraphTree.{IsHomeOf, start_of}
 use Rattle.zs_cover.proofs.Lists.{has-left, has-right, from-append, from-find, none-find}
 use Rattle.zs_plain.specs.Tests.{has_piece, is_own, pieces_held}
 use Rattle.zs_plain.proofs.Decide.{has_piece-is}

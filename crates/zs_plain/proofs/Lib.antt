@@ -5,3 +5,6 @@ pub mod Below
 pub mod AheadDecides
 pub mod TurnDecides
 pub mod SoundDecides
+pub mod TreeDecides
+pub mod BlockDecides
+pub mod ValidDecides

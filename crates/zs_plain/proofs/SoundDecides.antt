@@ -1,13 +1,12 @@
 -- The test of a sound state decides it.
-use Rattle.std.proofs.Common.{◌≡◌, ◌≢◌, ◌⊎◌, ◌≤◌, ◌+◌, ◌-◌, ◌↔◌, ℕ, Bool, true, false, not, ◌&&◌, ◌||◌, List, [], ◌∷◌, ◌++◌, length, refl, sym, ap, subst, ◌∙◌, arith}
+use Rattle.std.proofs.Common.{◌≡◌, ◌⊎◌, ◌≤◌, ◌+◌, ◌-◌, ◌↔◌, ℕ, Bool, true, false, not, ◌&&◌, ◌||◌, List, [], ◌∷◌, length, refl, sym, ap, subst, ◌∙◌, arith}
 use Rattle.std.specs.Prelude.{nat_le, ◌==◌}
 use Rattle.std.specs.Bool.{Decides}
-use Rattle.std.specs.List.{list_any, list_all}
+use Rattle.std.specs.List.{list_all}
 use Rattle.std.proofs.lemmas.Bool.{true≢false}
 use Rattle.std.proofs.lemmas.Bool.Decides.{Decides-and, Decides-or, Decides-not, Decides-eqb}
 use Rattle.zs_ids.specs.declared.key.Key.{Key}
 use Rattle.zs_ids.specs.declared.dataset.DsId.{DsId}
-use Rattle.zs_ids.specs.declared.dataset.TheConstants.DsId.{ORIGIN}
 use Rattle.zs_ids.specs.Graph.{Has, Dataset, Graph}
 use Rattle.zs_ids.specs.GraphTree.{is_id, Above}
 use Rattle.zs_ids.specs.GraphValid.{last_birth}
@@ -26,7 +25,6 @@ use Rattle.zs_phys.specs.Handlers.{is_on}
 use Rattle.zs_phys.specs.Ahead.{pending, ids_at}
 use Rattle.zs_phys.specs.Sound.{AreDistinct, IsOfGraph, IsPass, EndsBy, IsAtRest, HasNoPass, Sound, first_todo, pass_end}
 use Rattle.zs_phys.specs.Sound.EndsBy.{past, started, canceled}
-use Rattle.zs_cover.proofs.Lists.{some_is}
 use Rattle.zs_plain.specs.Tests.{has_id}
 use Rattle.zs_plain.specs.Below.{IsBelow}
 use Rattle.zs_plain.specs.TurnTests.{is_scanning}
@@ -37,7 +35,7 @@ use Rattle.zs_plain.proofs.TurnDecides.{scanning_is}
 use mathlib.Core.Logic.{inl, inr}
 
 -- a fact that is due where a test is false
-unless : {Q : Type 0} (a b : Bool) → Decides b Q → Decides (a || b) (a ≡ false → Q)
+pub unless : {Q : Type 0} (a b : Bool) → Decides b Q → Decides (a || b) (a ≡ false → Q)
 unless true b q = (λ e f. absurd (true≢false f), λ h. refl)
 unless false b q = (λ e f. q.0 e, λ h. q.1 (h refl))
 
@@ -45,7 +43,7 @@ otherwise : {P Q : Type 0} (a b : Bool) → Decides a P → Decides b Q → Deci
 otherwise true b p q = (λ e n. absurd (n (p.0 refl)), λ h. refl)
 otherwise false b p q = (λ e n. q.0 e, λ h. q.1 (h (λ x. true≢false (sym (p.1 x)))))
 
-denies : (a : Bool) → Decides (not a) (a ≡ false)
+pub denies : (a : Bool) → Decides (not a) (a ≡ false)
 denies true = (λ e. absurd (true≢false (sym e)), λ e. absurd (true≢false e))
 denies false = (λ e. refl, λ e. refl)
 
@@ -53,7 +51,7 @@ denies false = (λ e. refl, λ e. refl)
 apart : {A : Type 0} (f : A → Bool) (x y : A) → f x ≡ true → f y ≡ false → x ≡ y → ⊥
 apart f x y t n e = true≢false (sym t ∙ ap f e ∙ n)
 
-fails : {P : Type 0} → (P → ⊥) → Decides false P
+pub fails : {P : Type 0} → (P → ⊥) → Decides false P
 fails n = (λ e. absurd (true≢false (sym e)), λ p. absurd (n p))
 
 nowhere_is : (x : At) → Decides (is_nowhere x) (x ≡ Nowhere)
@@ -94,7 +92,7 @@ resilver_is Scrub = fails (λ e. apart is_resilver Resilver Scrub refl refl (sym
 resilver_is Resilver = (λ e. refl, λ e. refl)
 
 -- a list of no length is empty
-empty_is : {A : Type 0} (xs : List A) → Decides (length xs == 0) (xs ≡ [])
+pub empty_is : {A : Type 0} (xs : List A) → Decides (length xs == 0) (xs ≡ [])
 empty_is [] = (λ e. refl, λ e. refl)
 empty_is (x ∷ xs) =
     let some : (length (x ∷ xs) ≡ 0) → ⊥ = λ (e : length (x ∷ xs) ≡ 0). omega (arith, e) in

@@ -1,11 +1,10 @@
 -- The turn that is computed is the one that comes.
-use Rattle.std.proofs.Common.{◌≡◌, ◌⊎◌, ◌<◌, ◌≤◌, max, ℕ, Bool, true, false, not, cond, List, [], ◌∷◌, ◌++◌, length, refl, sym, ap, subst, ◌∙◌, Option, Some, None, MatchOption, option_map, arith}
+use Rattle.std.proofs.Common.{◌≡◌, ◌<◌, ◌≤◌, max, Bool, true, false, not, cond, List, [], ◌∷◌, refl, sym, ap, subst, ◌∙◌, Option, Some, None, MatchOption, option_map}
 use Rattle.std.specs.Prelude.{nat_le}
 use Rattle.std.specs.Bool.{Decides}
-use Rattle.std.proofs.lemmas.Bool.{true≢false, cond-true, cond-false, leb-true, leb-false, le-leb, lt-leb, not-true, not_from_false, false_from_ne_true, and_parts, and_from, and_left, and_right, not_from_true}
+use Rattle.std.proofs.lemmas.Bool.{true≢false, cond-true, cond-false, leb-true, leb-false, le-leb, lt-leb, not-true, not_from_false, and_parts, and_from}
 use Rattle.zs_ids.specs.declared.key.Key.{Key}
 use Rattle.zs_ids.specs.declared.block.Bp.{Bp}
-use Rattle.zs_ids.specs.declared.block.Piece.{Piece}
 use Rattle.zs_ids.specs.declared.dataset.DsId.{DsId}
 use Rattle.zs_ids.specs.Blocks.{first_from}
 use Rattle.zs_ids.specs.Graph.{Has, Dataset, Graph}
@@ -21,13 +20,12 @@ use Rattle.zs_phys.specs.declared.phys.Status.TheVariants.{Never, Scanning, Fini
 use Rattle.zs_phys.specs.declared.step.Step.{Step}
 use Rattle.zs_phys.specs.declared.step.Step.TheVariants as steps
 use Rattle.zs_phys.specs.declared.todos.Todo.{Todo}
-use Rattle.zs_phys.specs.Turn.{IsWalking, HasNoWork, Comes, Turn, advanced, put_by}
+use Rattle.zs_phys.specs.Turn.{IsWalking, HasNoWork, Comes}
 use Rattle.zs_phys.specs.Turn.HasNoWork.{no_scan, paused, none_left}
 use Rattle.zs_phys.specs.Turn.Comes.{rests, leaves, skips, enters, meets, ends}
 use Rattle.zs_cover.proofs.Lists.{from-find, none-find, some_is, some≢none}
 use Rattle.zs_cover.proofs.Graphs.{id_is, is_id-same, dataset_is}
-use Rattle.zs_plain.specs.TurnTests.{is_scanning, is_walking, queue_step, block_step, walk_step, next_step, IsTooLarge}
-use mathlib.Core.Logic.{inl, inr}
+use Rattle.zs_plain.specs.TurnTests.{is_scanning, is_walking, queue_step, block_step, walk_step, next_step}
 
 scanning≢never : Scanning ≡ Never → ⊥
 scanning≢never e = true≢false (ap is_scanning e)
@@ -161,22 +159,3 @@ module _ (g : Graph) (scope : Scope) (s : Phys) where
   pub comes_from : (r : Option Step) → r ≡ next_step g scope s → MatchOption r ((step : Step) → Comes g scope s step → ⊥) (λ (step : Step). Comes g scope s step)
   comes_from None is = no_step (sym is)
   comes_from (Some step) is = step_comes step (sym is)
-
--- a turn that is made, where the step that it makes is the only one that comes
-module _ (g : Graph) (scope : Scope) (s : Phys) (done : Piece → Bool) (r : Option Step) (only : IsInIdOrder g → (step : Step) → Comes g scope s step → r ≡ Some step) where
-  pub none_turns : r ≡ None → IsInIdOrder g → (t : Phys) (put : List Piece) → Turn g scope done s t put → IsTooLarge t
-  none_turns none order t put turn =
-      absurd (some≢none turn.step (sym (only order turn.step turn.comes) ∙ none))
-
-  module _ (next : Step) (some : r ≡ Some next) where
-    is_next : IsInIdOrder g → (t : Phys) (put : List Piece) (turn : Turn g scope done s t put) → turn.step ≡ next
-    is_next order t put turn = some_is turn.step next (sym (only order turn.step turn.comes) ∙ some)
-
-    pub large_turns : IsTooLarge (advanced g scope s next) → IsInIdOrder g → (t : Phys) (put : List Piece) → Turn g scope done s t put → IsTooLarge t
-    large_turns large order t put turn =
-        subst (λ (x : Phys). IsTooLarge x) (sym (turn.becomes ∙ ap (λ (x : Step). advanced g scope s x) (is_next order t put turn))) large
-
-    pub same_turns : (state : Phys) (puts : List Piece) → state ≡ advanced g scope s next → puts ≡ put_by scope done s next → IsInIdOrder g → (t : Phys) (put : List Piece) → Turn g scope done s t put → (t ≡ state) × (put ≡ puts)
-    same_turns state puts state_is puts_is order t put turn =
-        let same = is_next order t put turn in
-        (turn.becomes ∙ ap (λ (x : Step). advanced g scope s x) same ∙ sym state_is, turn.puts ∙ ap (λ (x : Step). put_by scope done s x) same ∙ sym puts_is)

@@ -1,5 +1,5 @@
 -- The tests by which this crate decides what is ahead of a state, and whether the state covers a graph.
-use Rattle.std.specs.Prelude.{◌==◌, ◌&&◌, ◌||◌, not, ℕ, Bool, false, List, nat_lt, nat_le}
+use Rattle.std.specs.Prelude.{◌&&◌, ◌||◌, not, ℕ, Bool, false, List, nat_lt, nat_le}
 use Rattle.std.specs.List.{list_any, list_all}
 use Rattle.std.specs.Ordering.{is_le}
 use Rattle.zs_ids.specs.declared.key.Key.{Key}

@@ -3,3 +3,6 @@ pub mod AheadTests
 pub mod Below
 pub mod TurnTests
 pub mod SoundTests
+pub mod TreeTests
+pub mod BlockTests
+pub mod ValidTests

@@ -1,12 +1,12 @@
 -- The tests by which this crate decides the definitions.
-use Rattle.std.specs.Prelude.{◌==◌, ◌&&◌, ◌||◌, not, ℕ, Bool, false, List, Option, Some, None, nat_lt, filter, find, flat_map, map}
-use Rattle.std.specs.List.{list_any, list_all}
+use Rattle.std.specs.Prelude.{◌==◌, ◌&&◌, ◌||◌, not, ℕ, Bool, false, List, Option, Some, None, nat_lt, flat_map}
+use Rattle.std.specs.List.{list_any}
 use Rattle.zs_ids.specs.declared.key.Key.{Key}
 use Rattle.zs_ids.specs.declared.block.Bp.{Bp}
 use Rattle.zs_ids.specs.declared.block.Piece.{Piece}
 use Rattle.zs_ids.specs.declared.dataset.DsId.{DsId}
-use Rattle.zs_ids.specs.Graph.{Dataset, Graph, pieces_of}
-use Rattle.zs_ids.specs.GraphTree.{is_id, start_of}
+use Rattle.zs_ids.specs.Graph.{Dataset, pieces_of}
+use Rattle.zs_ids.specs.GraphTree.{is_id}
 
 -- the list has the id
 abbrev pub has_id : List DsId → DsId → Bool

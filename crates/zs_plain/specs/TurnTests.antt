@@ -4,7 +4,7 @@ use Rattle.zs_ids.specs.declared.key.Key.{Key}
 use Rattle.zs_ids.specs.declared.block.Bp.{Bp}
 use Rattle.zs_ids.specs.declared.dataset.DsId.{DsId}
 use Rattle.zs_ids.specs.Blocks.{first_from}
-use Rattle.zs_ids.specs.Graph.{Dataset, Graph}
+use Rattle.zs_ids.specs.Graph.{Graph}
 use Rattle.zs_ids.specs.GraphTree.{dataset_at}
 use Rattle.zs_phys.specs.declared.scope.Scope.{Scope}
 use Rattle.zs_phys.specs.declared.phys.Phys.{Phys}

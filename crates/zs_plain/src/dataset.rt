@@ -1,4 +1,4 @@
-//! A dataset with its entries in a list.
+//! A dataset with its entries in a list, and the room of a pool.
 
 use std::marker::Model;
 use zs_ids::{Bp, DsId, Key, Name, Seq};
@@ -29,4 +29,23 @@ impl Model for PlainDataset {
     ghost Value = { Dataset };
 
     ghost view = { λ d. record { id = d.id; head = d.head; owner = d.owner; label = d.label; parent = d.parent; creation = d.creation; entries = d.entries } };
+}
+
+/// The room of a pool.
+#[derive(Debug, Drop)]
+pub struct PlainRoom {
+    /// The sector at which the space of each mirror begins.
+    pub start: u64,
+    /// The sectors at which those of the mirrors end.
+    pub ends: Seq<u64>,
+    /// How many blocks the pool may hold.
+    pub blocks: u64,
+}
+
+impl Model for PlainRoom {
+    ghost use Rattle.zs_ids.specs.GraphValid.{Room};
+
+    ghost Value = { Room };
+
+    ghost view = { λ r. record { start = r.start; ends = r.ends; blocks = r.blocks } };
 }

@@ -1,19 +1,28 @@
-//! A plain program beside the definitions: each function of it decides, or computes, one definition of datasets,
-//! scan states, coverage or turns on a short list of datasets, and is proved to do so.
+//! A plain program beside the definitions: each public function decides, or computes, one of the definitions of
+//! datasets, scan states, coverage and turns, on a short list of datasets.
 //!
-//! It is for examples only. The pool keeps its own data and calls nothing of this; here the loops are plain, and
-//! quadratic where that is shorter. The tests run worked examples through it, so that a definition that
-//! says something else than it should shows.
+//! Layer: above the definitions (`zs_ids`, `zs_phys`), with lemmas of `zs_cover`. Nothing stands on it: it is for
+//! examples only, its loops are plain, and some of them nested. The pool has its own data and calls none of this.
+//! Model: a `PlainDataset` is seen as the dataset of the definitions, and a slice of them as a graph.
+//! Promise: a test answers true exactly where the definition holds, and what is computed is what the definition has,
+//! all of it and nothing else. The tests run worked examples through it, with events between the turns of a
+//! walk, and states that lose blocks, so that a definition that says something else than it should shows.
+//!
+//! Where a definition changes, its test in `specs/` and the proof in `proofs/` that the test decides it change too:
+//! `graph` and `tree` for what is live and at home, `ahead` for coverage, `sound` for states, `turn` for the walk,
+//! `valid` and `blocks` for graphs.
 #![tactic(auto)]
 
 pub mod ahead;
+pub mod blocks;
 pub mod dataset;
 pub mod graph;
 pub mod sound;
 pub mod tree;
 pub mod turn;
+pub mod valid;
 
-pub use dataset::PlainDataset;
+pub use dataset::{PlainDataset, PlainRoom};
 pub use turn::PlainTurn;
 
 #[cfg(test)]

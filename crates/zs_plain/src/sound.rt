@@ -57,7 +57,7 @@ fn are_placed(g: &[PlainDataset], ids: &[DsId], below: &[DsId]) -> bool
 }
 
 /// The last transaction group in which a block of the dataset may be born, where the open one is h.
-fn last_birth(dataset: &PlainDataset, h: u64) -> u64
+pub(crate) fn last_birth(dataset: &PlainDataset, h: u64) -> u64
     ensures { result ≡ last_birth dataset.now h }
 {
     if dataset.head { h } else { dataset.creation }

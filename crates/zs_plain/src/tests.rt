@@ -2,12 +2,14 @@
 
 mod examples;
 mod graphs;
+mod valid;
 mod wrong;
 
 use crate::ahead::covers;
-use crate::dataset::PlainDataset;
+use crate::dataset::{PlainDataset, PlainRoom};
 use crate::sound::is_sound;
 use crate::turn::{PlainTurn, turn};
+use crate::valid::is_valid;
 use std::alloc::{AllocError, Global};
 use zs_ids::{Bp, DsId, Key, Name, Piece, Place, Seq};
 use zs_phys::{At, Kind, Phys, Scope, Status, Step, Todo};
@@ -166,7 +168,17 @@ pub fn pieces(
         .collect(alloc)
 }
 
-/// Whether the state belongs to the graph and covers it, where h is the transaction group whose tasks come next.
+/// The room of one mirror of 512 sectors, with at most so many blocks.
+pub fn room(alloc: Global, blocks: u64) -> Result<PlainRoom, AllocError> {
+    let ends = Seq::from_slice(alloc, &[512])?;
+    Ok(PlainRoom {
+        start: 296,
+        ends,
+        blocks,
+    })
+}
+
+/// Whether the graph is valid, and the state belongs to it and covers it, where h is the transaction group whose tasks come next.
 pub fn holds(
     alloc: Global,
     g: &[PlainDataset],
@@ -175,9 +187,10 @@ pub fn holds(
     s: &Phys,
     done: &[Piece],
 ) -> Result<bool, AllocError> {
+    let valid = is_valid(alloc, &room(alloc, 64)?, g, h)?;
     let sound = is_sound(alloc, g, h, scope, s)?;
     let covers = covers(alloc, g, scope, s, done)?;
-    Ok(sound && covers)
+    Ok(valid && (sound && covers))
 }
 
 /// What a walk came to.
@@ -189,7 +202,7 @@ pub struct Walked {
     pub state: Phys,
     /// What was done before it, and what it put.
     pub done: Vec<Piece>,
-    /// Whether each state of it was sound and covering.
+    /// Whether the graph was valid, and each state of it sound and covering.
     pub held: bool,
 }
 

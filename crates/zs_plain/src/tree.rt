@@ -89,7 +89,7 @@ pub fn children_of(alloc: Global, g: &[PlainDataset], id: DsId) -> Result<Vec<Ds
 }
 
 /// Whether the parent is this dataset.
-fn stands_on(id: DsId, parent: Option<DsId>) -> bool
+pub(crate) fn stands_on(id: DsId, parent: Option<DsId>) -> bool
     ensures { result ≡ stands_on id parent }
 {
     match parent {

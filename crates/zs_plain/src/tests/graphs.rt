@@ -185,3 +185,66 @@ pub fn two_filesystems(alloc: Global, first: bool) -> Result<Vec<PlainDataset>, 
     g.push(dataset(alloc, 2, b'b', 0, None, &one_record(313, 321, 329, 3))?)?;
     Ok(g)
 }
+
+/// A filesystem of one record at these sectors, beside one at 296, 304 and 312.
+pub fn beside(
+    alloc: Global,
+    root: u32,
+    dnodes: u32,
+    record: u32,
+) -> Result<Vec<PlainDataset>, AllocError> {
+    let mut g = one_filesystem(alloc)?;
+    g.push(dataset(
+        alloc,
+        2,
+        b'b',
+        0,
+        None,
+        &one_record(root, dnodes, record, 3),
+    )?)?;
+    Ok(g)
+}
+
+/// A filesystem that lacks the block of dnodes above its record.
+pub fn without_dnodes(alloc: Global) -> Result<Vec<PlainDataset>, AllocError> {
+    let root = block(key(0, 0, 0, 0), 296, 3);
+    let record = block(key(1, 1, 0, 3), 312, 3);
+    let mut g = Vec::new(alloc);
+    g.push(origin(alloc))?;
+    g.push(dataset(alloc, 1, b'a', 0, None, &[root, record])?)?;
+    Ok(g)
+}
+
+/// A filesystem whose record is born after the blocks above it.
+pub fn young_record(alloc: Global) -> Result<Vec<PlainDataset>, AllocError> {
+    let root = block(key(0, 0, 0, 0), 296, 3);
+    let dnodes = block(key(0, 0, 0, 1), 304, 3);
+    let record = block(key(1, 1, 0, 3), 312, 4);
+    let mut g = Vec::new(alloc);
+    g.push(origin(alloc))?;
+    g.push(dataset(alloc, 1, b'a', 0, None, &[root, dnodes, record])?)?;
+    Ok(g)
+}
+
+/// A head on a snapshot that was taken in transaction group 5, with a block of group 3 that the snapshot lacks.
+pub fn unshared(alloc: Global) -> Result<Vec<PlainDataset>, AllocError> {
+    let mut g = Vec::new(alloc);
+    g.push(origin(alloc))?;
+    g.push(dataset(alloc, 1, b'a', 2, None, &one_record(313, 321, 329, 3))?)?;
+    g.push(dataset(
+        alloc,
+        2,
+        b'a',
+        0,
+        Some((5, b's')),
+        &one_record(296, 304, 312, 3),
+    )?)?;
+    Ok(g)
+}
+
+/// A head on a head.
+pub fn head_on_head(alloc: Global) -> Result<Vec<PlainDataset>, AllocError> {
+    let mut g = one_filesystem(alloc)?;
+    g.push(dataset(alloc, 2, b'b', 1, None, &[])?)?;
+    Ok(g)
+}

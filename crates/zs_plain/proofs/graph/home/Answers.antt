@@ -1,4 +1,4 @@
-use Rattle.std.proofs.Common.{◌≡◌, ◌<◌, length, find, None, arith}
+use Rattle.std.proofs.Common.{◌≡◌, find, None, arith}
 use Rattle.zs_ids.specs.Graph.{Dataset}
 use Rattle.zs_ids.specs.GraphTree.{start_of}
 use Rattle.zs_plain.specs.Tests.{is_own}

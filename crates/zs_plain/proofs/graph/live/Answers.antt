@@ -1,4 +1,4 @@
-use Rattle.std.proofs.Common.{◌≡◌, List, length, ◌≤◌, ap, ◌∙◌, flat_map, arith}
+use Rattle.std.proofs.Common.{List, ap, ◌∙◌, flat_map, arith}
 use Rattle.std.proofs.lemmas.List.{take_all}
 use Rattle.zs_ids.specs.Graph.{Dataset}
 use Rattle.zs_plain.specs.Tests.{pieces_held}

@@ -1,4 +1,4 @@
-use Rattle.std.proofs.Common.{List, length, filter}
+use Rattle.std.proofs.Common.{length, filter}
 use Rattle.zs_ids.specs.declared.dataset.DsId.{DsId}
 use Rattle.zs_ids.specs.Graph.{Has}
 use Rattle.zs_plain.specs.Below.{IsBelow}

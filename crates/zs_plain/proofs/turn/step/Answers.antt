@@ -1,4 +1,4 @@
-use Rattle.std.proofs.Common.{sym, ◌∙◌}
+use Rattle.std.proofs.Common.{◌∙◌}
 use Rattle.zs_plain.proofs.TurnDecides.{comes_from, only_step}
 use Rattle.zs_plain.proofs.turn.step.Goals as goal
 
