@@ -1,11 +1,11 @@
 -- A journal stays lawful over one call more.
-use Rattle.std.proofs.Common.{◌≡◌, ◌⊎◌, inl, inr, ℕ, zero, suc, ◌+◌, ◌≤◌, ◌<◌, ◌==◌, ◌&&◌, Bool, true, false, if◌then◌else◌, nat_lt, min, max, List, [], ◌∷◌, ◌++◌, length, take, drop, ◌-◌, Option, None, Some, option_map, is_some, refl, sym, ◌∙◌, ap, subst, arith}
+use Rattle.std.proofs.Common.{◌≡◌, ◌⊎◌, inl, inr, ℕ, zero, suc, ◌+◌, ◌≤◌, ◌<◌, ◌==◌, ◌&&◌, Bool, true, false, if◌then◌else◌, min, max, List, [], ◌∷◌, ◌++◌, length, take, drop, ◌-◌, Option, None, Some, option_map, is_some, refl, sym, ◌∙◌, ap, subst, arith}
 use Rattle.std.specs.List.{slice_get, slice_range}
 use Rattle.std.proofs.lemmas.List.{take_all, take-append-le, take-append-drop, append-nil}
 use Rattle.std.proofs.lemmas.Bool.{cases_lt}
 use Rattle.std.proofs.lemmas.Bool.Decides.{nat_tests}
 use Rattle.zs_sum.specs.Sum.{sha256}
-use Rattle.zs_io.specs.Told.{Told, BothTold, Torn, over}
+use Rattle.zs_io.specs.Told.{Told, BothTold, over}
 use Rattle.zs_io.specs.Ranges.{over_torn, over_reads, torn_before, torn_after}
 use Rattle.zs_lane.specs.declared.mark.Mark.{Mark}
 use Rattle.zs_lane.specs.declared.mark.Mark.TheVariants.{Read, Wrote, Synced, Failed}

@@ -5,7 +5,7 @@ use Rattle.std.proofs.lemmas.Bool.{cases_eq}
 use Rattle.std.proofs.lemmas.Option.{slice_get_read}
 use Rattle.std.specs.List.{slice_get}
 use Rattle.std.specs.Vec.{with_item}
-use Rattle.zs_io.specs.Crash.{NoMore, Elapses}
+use Rattle.zs_io.specs.Crash.{Elapses}
 use Rattle.zs_io.specs.Told.{Told}
 use Rattle.zs_lane.specs.Children.{Stays, of_lane, AtLane}
 

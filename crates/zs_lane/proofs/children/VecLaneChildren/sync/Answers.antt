@@ -1,4 +1,4 @@
-use Rattle.std.proofs.Common.{◌≡◌, ◌≢◌, ◌∙◌, ℕ, Some, length, slice_set, sym, refl, ap}
+use Rattle.std.proofs.Common.{◌≡◌, ◌∙◌, Some, slice_set, sym, refl, ap}
 use Rattle.std.specs.List.{slice_get}
 use Rattle.zs_lane.specs.Journal.{Keeps}
 use Rattle.zs_lane.proofs.Set.{get-set_same, get-set_other, was_at, sizes_at, with_item_same, told_on, time_at, stays_at}

@@ -1,4 +1,4 @@
-use Rattle.std.proofs.Common.{◌≡◌, ◌∙◌, ap, sym, subst, length, arith, option_map}
+use Rattle.std.proofs.Common.{◌∙◌, ap, subst, length, arith, option_map}
 use Rattle.zs_io.specs.Told.{Torn, BothTold, over}
 use Rattle.zs_lane.specs.declared.mark.Mark.TheVariants.{Wrote, Failed}
 use Rattle.zs_lane.proofs.Keep.{pushed, after_write, after_torn}
