@@ -11,7 +11,7 @@ use Rattle.std.proofs.lemmas.Map.Lookups.{exact_unsigned}
 use Rattle.zs_alloc.specs.declared.free.Range.{Range}
 use Rattle.zs_alloc.specs.declared.taken.Taken.{Taken}
 use Rattle.zs_alloc.specs.Free.{free_count, hits, is_within, AreFree, AreTaken, IsCut, IsPut}
-use Rattle.zs_alloc.specs.Kept.{IsSplit, taken_count, AreSome, AreKept}
+use Rattle.zs_alloc.specs.Kept.{IsSplit, taken_count, AreSome, AreKept, IsLaidOut}
 use Rattle.zs_alloc.specs.Space.{MirrorView, covers, is_free, IsFreeRun, taken_at, fresh, with_range, without_range, is_over}
 use Rattle.zs_alloc.proofs.Counts.{hits_in, hits_below, hits_above, where_is}
 
@@ -288,3 +288,11 @@ run_end m a n some run = reaches (bounds (a + n) m.end)
         let in_ = within_hits m.start m.end last both.0 in
         let none = hits_above m.start m.end last (omega arith) in
         absurd (omega arith)
+
+pub laid_out : (m : MirrorView) (free : List Range) (capacity : ℕ) → IsSplit m.start m.end free m.taken capacity → IsLaidOut m
+laid_out m free capacity split = record {
+  apart = λ s. let sum = split.parts s in omega arith;
+  some = split.some;
+  kept = split.kept;
+  sorted = split.sorted;
+}

@@ -10,7 +10,7 @@ use Rattle.zs_alloc.specs.declared.taken.Freed.{Freed}
 use Rattle.zs_alloc.specs.declared.taken.Freed.TheVariants.{Not, In, Settled}
 use Rattle.zs_alloc.specs.declared.mirror.Freeing.{Freeing}
 use Rattle.zs_alloc.specs.Free.{RisesFrom, free_count, hits}
-use Rattle.zs_alloc.specs.Space.{is_over, taken_at, still_taken, settled}
+use Rattle.zs_alloc.specs.Space.{MirrorView, is_over, taken_at, still_taken, settled}
 
 -- how many of the taken ranges have the sector
 abbrev pub taken_count : List (ℕ × Taken) → ℕ → ℕ
@@ -26,6 +26,17 @@ AreSome (e ∷ es) = (0 < e.1.sectors) × AreSome es
 abbrev pub AreKept : List (ℕ × Taken) → Type 0
 AreKept [] = Unit {0}
 AreKept (e ∷ es) = (is_over e.1 ≡ false) × AreKept es
+
+-- what a mirror's taken ranges keep to
+pub record IsLaidOut (m : MirrorView) : Type 0 where
+  -- each sector of the space is in at most one of them, and no other sector is in any
+  pub apart : (s : ℕ) → taken_count m.taken s ≤ hits m.start m.end s
+  -- none is empty
+  pub some : AreSome m.taken
+  -- none is over
+  pub kept : AreKept m.taken
+  -- they rise
+  pub sorted : IsStrictlySortedBy nat_cmp (keys_of m.taken)
 
 -- there is such a range already, of the same size
 pub record IsUpdate (taken : List (ℕ × Taken)) (first : ℕ) (range : Taken) : Type 0 where

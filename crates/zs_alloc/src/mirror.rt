@@ -3,7 +3,7 @@
 ghost use Rattle.std.specs.Prelude.{◌≡◌, ◌<◌, ◌≤◌, [], ℕ, List, map, take, IfOk, IfErr, OnOk, OnErr, IsOk, IsSome, Some, filter, nat_lt};
 ghost use Rattle.zs_alloc.specs.declared.fault.SpaceFault.TheVariants.{Memory};
 ghost use Rattle.zs_alloc.specs.Space.{taken_at, fresh, with_range, without_range, HasNoRun, IsLowestRun, IsFreeRun, NoSpaceWhere, changed, freed_in, pinned, unpinned, still_taken, settled, settled_all, pins_at};
-ghost use Rattle.zs_alloc.specs.Kept.{AreKept, settled_if, is_due};
+ghost use Rattle.zs_alloc.specs.Kept.{AreKept, IsLaidOut, settled_if, is_due};
 
 use crate::fault::SpaceFault;
 use crate::ranges::Ranges;
@@ -49,6 +49,13 @@ impl Mirror {
             ranges,
             waiting: Vec::new(alloc),
         })
+    }
+
+    /// The taken ranges rise and lie apart in the space, and none is empty or over.
+    pub(crate) fn facts(&self)
+        ensures { IsLaidOut self.now }
+    {
+        self.ranges.facts();
     }
 
     /// Takes the first sectors of the lowest free range that has so many, and answers the first of them.

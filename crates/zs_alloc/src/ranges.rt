@@ -5,7 +5,7 @@ ghost use Rattle.std.specs.Map.{keys_of};
 ghost use Rattle.std.specs.Ordering.{nat_cmp};
 ghost use Rattle.std.specs.List.Sorted.{IsStrictlySortedBy};
 ghost use Rattle.zs_alloc.specs.declared.taken.Freed.TheVariants.{Not};
-ghost use Rattle.zs_alloc.specs.Kept.{IsSplit, AreKept, IsUpdate};
+ghost use Rattle.zs_alloc.specs.Kept.{IsSplit, AreKept, IsUpdate, IsLaidOut};
 ghost use Rattle.zs_alloc.specs.Free.{RisesFrom, AreTaken, Holds, IsCut, IsPut};
 ghost use Rattle.zs_alloc.specs.Space.{taken_at, fresh, with_range, without_range, HasNoRun, IsLowestRun, IsFreeRun, NoSpaceWhere, still_taken};
 
@@ -32,7 +32,7 @@ pub(crate) struct Ranges {
 impl Model for Ranges {
     ghost use Rattle.std.specs.Prelude.{vec_capacity};
     ghost use Rattle.zs_alloc.specs.Space.{MirrorView};
-    ghost use Rattle.zs_alloc.specs.Kept.{IsSplit, AreKept, IsUpdate};
+    ghost use Rattle.zs_alloc.specs.Kept.{IsSplit, AreKept, IsUpdate, IsLaidOut};
 
     ghost Value = { MirrorView };
 
@@ -112,10 +112,9 @@ impl Ranges {
         self.taken.get(&first).copied()
     }
 
-    /// The taken ranges rise, and none is over.
+    /// The taken ranges rise and lie apart in the space, and none is empty or over.
     pub(crate) fn facts(&self)
-        ensures sorted { IsStrictlySortedBy nat_cmp (keys_of self.now.taken) }
-        ensures kept { AreKept self.now.taken }
+        ensures { IsLaidOut self.now }
     {
         let _taken = &self.taken;
     }

@@ -2,6 +2,7 @@
 
 ghost use Rattle.std.specs.Prelude.{◌≡◌, ◌<◌, ◌≤◌, [], ℕ, length, map, IfOk, IfErr, OnOk, OnErr, IsOk, Some};
 ghost use Rattle.zs_alloc.specs.declared.fault.SpaceFault.TheVariants.{Memory};
+ghost use Rattle.zs_alloc.specs.Kept.{IsLaidOut};
 ghost use Rattle.zs_alloc.specs.Space.{mirror_at, with_taken, with_range, without_range, taken_at, fresh, HasNoRun, IsFreeRun, IsLowestRun, NoSpaceWhere, IsInUse, IsTaken, changed, freed_in, pinned, unpinned, still_taken, settled_mirror, pins_at};
 
 use crate::fault::SpaceFault;
@@ -34,6 +35,15 @@ impl Space {
             mirrors.push(Mirror::new(alloc, start, *end)?)?;
         }
         Ok(Space { mirrors })
+    }
+
+    /// What the taken ranges of a mirror keep to: they rise, lie in the space, and no two have a sector in common;
+    /// none is empty, and none is freed, settled and without a pin. The mirror is below the number of mirrors.
+    pub fn facts(&self, vdev: u8)
+        requires { vdev < length self.now }
+        ensures { IsLaidOut (mirror_at self.now vdev) }
+    {
+        self.mirrors[usize::from(vdev)].facts();
     }
 
     /// Takes the first sectors of the lowest free range of the mirror that has so many. `NoSpace` where it has none.

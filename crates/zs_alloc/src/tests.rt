@@ -32,6 +32,7 @@ fn takes_the_lowest_range_that_fits(rt: HostRuntime) -> Result<(), Fail> {
     assert_eq!(rt; space.take(0, 1), Ok(at(304)));
     assert_eq!(rt; space.take(0, 14), Err(SpaceFault::NoSpace));
     assert_eq!(rt; space.take(1, 9), Err(SpaceFault::NoSpace));
+    space.facts(1);
     Ok(())
 }
 
