@@ -58,6 +58,13 @@ impl Mirror {
         self.ranges.facts();
     }
 
+    /// The range that is taken from `first` on.
+    pub(crate) fn range(&self, first: u32) -> Option<Taken>
+        ensures { result ≡ taken_at self.now.taken first }
+    {
+        self.ranges.range(first)
+    }
+
     /// Takes the first sectors of the lowest free range that has so many, and answers the first of them.
     pub(crate) fn take(&mut self, sectors: u16) -> Result<u32, SpaceFault>
         requires { 0 < sectors }

@@ -7,6 +7,7 @@ ghost use Rattle.zs_alloc.specs.Space.{mirror_at, with_taken, with_range, withou
 
 use crate::fault::SpaceFault;
 use crate::mirror::Mirror;
+use crate::taken::Taken;
 use std::alloc::{AllocError, Global};
 use std::marker::Model;
 use zs_ids::{Item, Piece, Place};
@@ -35,6 +36,22 @@ impl Space {
             mirrors.push(Mirror::new(alloc, start, *end)?)?;
         }
         Ok(Space { mirrors })
+    }
+
+    /// How many mirrors there are.
+    pub fn mirrors(&self) -> usize
+        ensures { result ≡ length self.now }
+    {
+        self.mirrors.len()
+    }
+
+    /// The range that is taken from a place on; `None` where none begins there. The mirror is below the number of
+    /// mirrors.
+    pub fn range(&self, place: Place) -> Option<Taken>
+        requires { place.vdev < length self.now }
+        ensures { result ≡ taken_at (mirror_at self.now place.vdev).taken place.sector }
+    {
+        self.mirrors[usize::from(place.vdev)].range(place.sector)
     }
 
     /// What the taken ranges of a mirror keep to: they rise, lie in the space, and no two have a sector in common;
