@@ -4,3 +4,4 @@ pub mod Histories
 pub mod Refusals
 pub mod Scripts
 pub mod Backs
+pub mod Blocks

@@ -6,8 +6,11 @@ use Rattle.std.proofs.lemmas.Grind.{common_steps}
 use Rattle.zs_io.specs.Told.{Told}
 use Rattle.zs_script.specs.declared.command.Line.{Line}
 use Rattle.zs_script.specs.declared.command.ScriptFault.{ScriptFault}
+use Rattle.zs_script.specs.declared.command.ScriptFault.TheVariants.{Bad}
+use Rattle.zs_script.specs.declared.command.Why.{Why}
 use Rattle.zs_script.specs.Script.{parsed_script}
-use Rattle.zscan.specs.Step.{read_of, is_fault, lines_of_read, has_fault, lines_in}
+use Rattle.zscan.specs.Puts.{fault_line, line_of_read}
+use Rattle.zscan.specs.Step.{read_of, is_fault, lines_of_read, has_fault, fault_text, lines_in}
 
 -- what was read is the front of it all
 front : (n : ℕ) (xs ys : List ℕ) → length xs ≡ n → xs ≡ take n (xs ++ ys)
@@ -54,3 +57,8 @@ fetched n start None items told was long is = cc
 fetched n start (Some rest) items told was long is =
     let whole : told ≡ items ++ rest = cc in
     rw whole (sym (subst (λ (m : ℕ). take m (items ++ rest) ≡ items) long (take-append_seam items rest)))
+
+-- the line that tells its first fault
+pub fault_is : (items script : List ℕ) (number : ℕ) (why : Why) → items ≡ read_of script → parsed_script items ≡ Err (Bad number why) → fault_line number why ≡ fault_text script
+unfolding fault_text
+fault_is items script number why was is = sym (ap line_of_read (ap parsed_script (sym was) ∙ is))

@@ -29,17 +29,29 @@ pub record AreFit (width blocks : ℕ) (sizes : List ℕ) (told : List (Option (
   pub least : (k : ℕ) → k < width → least_sectors blocks ≤ slice_index sizes k / 512
   pub most : (k : ℕ) → k < width → slice_index sizes k / 512 ≤ most_sectors
 
--- why images of these sizes are refused
+-- each head is blank, where it is told
+abbrev pub AreBlank : List ℕ → List (Option (List ℕ)) → Type 0
+AreBlank sizes told = (k : ℕ) → k < length sizes → Told (told_at told k) (λ bytes. is_zero (head_of (slice_index sizes k) bytes) ≡ true)
+
+-- some head is not blank, where it is told
+abbrev pub SomeWritten : List ℕ → List (Option (List ℕ)) → Type 0
+SomeWritten sizes told = (k : ℕ) × (k < length sizes) × Told (told_at told k) (λ bytes. is_zero (head_of (slice_index sizes k) bytes) ≡ false)
+
+-- each image has enough sectors
+abbrev pub AreEnough : ℕ → List ℕ → Type 0
+AreEnough blocks sizes = (k : ℕ) → k < length sizes → least_sectors blocks ≤ slice_index sizes k / 512
+
+-- why images of these sizes are refused; the first of these that holds
 abbrev pub IsSizeFault : ℕ → List ℕ → Refusal → Type 0
 IsSizeFault blocks sizes TooSmall = (k : ℕ) × (k < length sizes) × (slice_index sizes k / 512 < least_sectors blocks)
-IsSizeFault blocks sizes TooLarge = (k : ℕ) × (k < length sizes) × (most_sectors < slice_index sizes k / 512)
+IsSizeFault blocks sizes TooLarge = AreEnough blocks sizes × ((k : ℕ) × (k < length sizes) × (most_sectors < slice_index sizes k / 512))
 IsSizeFault blocks sizes _ = ⊥
 
--- why the images are refused
+-- why the images are refused; the first of these that holds
 abbrev pub IsImageFault : ℕ → ℕ → List ℕ → List (Option (List ℕ)) → Refusal → Type 0
 IsImageFault width blocks sizes told Shape = length sizes ≢ width
-IsImageFault width blocks sizes told NotBlank = (k : ℕ) × (k < length sizes) × Told (told_at told k) (λ bytes. is_zero (head_of (slice_index sizes k) bytes) ≡ false)
-IsImageFault width blocks sizes told fault = IsSizeFault blocks sizes fault
+IsImageFault width blocks sizes told NotBlank = (length sizes ≡ width) × SomeWritten sizes told
+IsImageFault width blocks sizes told fault = (length sizes ≡ width) × AreBlank sizes told × IsSizeFault blocks sizes fault
 
 -- no call has failed yet on any device
 abbrev pub AreFresh : List ℕ → Type 0

@@ -1,8 +1,10 @@
 -- The copies of a block on the devices of its mirror, seen as the list of what each device tells.
-use Rattle.std.specs.Prelude.{◌≡◌, ◌==◌, ℕ, ◌+◌, ◌*◌, ◌<◌, ◌≤◌, Bool, true, false, List, Option, None, option_map, slice_index_or, slice_range, Result, OnOk, IsErrOf}
+use Rattle.std.specs.Prelude.{◌≡◌, ◌==◌, ℕ, ◌+◌, ◌*◌, ◌<◌, ◌≤◌, Bool, true, false, List, [], ◌∷◌, Option, None, option_map, slice_index_or, slice_range, Result, OnOk, IsErrOf}
 use Rattle.std.specs.Cmp.Lexicographic.{pointwise}
 use Rattle.std.specs.List.{list_any}
 use Rattle.zs_ids.specs.declared.block.Item.{Item}
+use Rattle.zs_ids.specs.declared.block.Place.{Place}
+use Rattle.zs_objset.specs.declared.block.StagedBlock.{StagedBlock}
 use Rattle.zs_io.specs.Told.{Told, over}
 use Rattle.zs_io.specs.Faults.{Rose}
 use Rattle.zs_io.specs.declared.fault.BayFault.{BayFault}
@@ -80,3 +82,17 @@ pub record HaveCause {T : Type 0} (before now : List ℕ) (result : Result T Bay
   pub ok : OnOk result (now ≡ before)
   pub failed : IsErrOf result Failed → SomeRose before now
   pub memory : IsErrOf result Memory → now ≡ before
+
+-- the sector of the first of these places
+abbrev pub first_sector : List Place → ℕ
+first_sector [] = 0
+first_sector (place ∷ places) = place.sector
+
+-- the bytes of a device with a block written over them
+abbrev pub put_over : StagedBlock → List ℕ → List ℕ
+put_over block bytes = over (512 * first_sector block.bp.places) block.bytes bytes
+
+-- with several blocks, one after another
+abbrev pub all_put_over : List StagedBlock → List ℕ → List ℕ
+all_put_over [] bytes = bytes
+all_put_over (block ∷ blocks) bytes = all_put_over blocks (put_over block bytes)

@@ -42,20 +42,20 @@ abbrev pub IsFitFor : Command → List ℕ → List (Option (List ℕ)) → Type
 IsFitFor (commands.Pool pool width limit every blocks) sizes told = AreFit width blocks sizes told
 IsFitFor _ sizes told = ⊥
 
--- the images are refused for a `pool` line
-abbrev pub IsUnfitFor : Command → List ℕ → List (Option (List ℕ)) → Type 0
-IsUnfitFor (commands.Pool pool width limit every blocks) sizes told = (fault : Refusal) × IsImageFault width blocks sizes told fault
-IsUnfitFor _ sizes told = ⊥
+-- the images are refused for a `pool` line, and this is the first reason
+abbrev pub IsUnfitFor : Command → List ℕ → List (Option (List ℕ)) → Refusal → Type 0
+IsUnfitFor (commands.Pool pool width limit every blocks) sizes told fault = IsImageFault width blocks sizes told fault
+IsUnfitFor _ sizes told fault = ⊥
 
 -- the images fit the line with which these begin
 abbrev pub AreFitFor : List Line → List ℕ → List (Option (List ℕ)) → Type 0
 AreFitFor [] sizes told = ⊥
 AreFitFor (line ∷ lines) sizes told = IsFitFor line.command sizes told
 
--- the images are refused for the line with which these begin
-abbrev pub AreUnfitFor : List Line → List ℕ → List (Option (List ℕ)) → Type 0
-AreUnfitFor [] sizes told = ⊥
-AreUnfitFor (line ∷ lines) sizes told = IsUnfitFor line.command sizes told
+-- the images are refused for the line with which these begin, and this is the first reason
+abbrev pub AreUnfitFor : List Line → List ℕ → List (Option (List ℕ)) → Refusal → Type 0
+AreUnfitFor [] sizes told fault = ⊥
+AreUnfitFor (line ∷ lines) sizes told fault = IsUnfitFor line.command sizes told fault
 
 -- why replies are no longer put
 pub record HasSinkReason {T : Type 0} (before now : ℕ) (result : Result T Stop) : Type 0 where

@@ -6,7 +6,7 @@ use Rattle.std.specs.Cmp.Lexicographic.{pointwise}
 use Rattle.zs_script.specs.declared.command.Line.{Line}
 use Rattle.zs_script.specs.declared.command.ScriptFault.{ScriptFault}
 use Rattle.zs_script.specs.Script.{parsed_script}
-use Rattle.zscan.specs.Session.{AreFitFor, AreUnfitFor}
+use Rattle.zscan.specs.Puts.{line_of_read}
 
 -- a word that may name an image: it is not empty, and does not begin with a hyphen
 abbrev pub is_image : List ℕ → Bool
@@ -46,3 +46,7 @@ has_fault script = is_fault (parsed_script (read_of script))
 -- the lines of a script that has no fault
 unfoldable pub lines_in : List ℕ → List Line
 lines_in script = lines_of_read (parsed_script (read_of script))
+
+-- the line that tells the first fault of a script; none where it has none
+unfoldable pub fault_text : List ℕ → List ℕ
+fault_text script = line_of_read (parsed_script (read_of script))

@@ -5,7 +5,7 @@ ghost use Rattle.zs_io.specs.Told.{Told};
 ghost use Rattle.zs_io.specs.Faults.{HasCause};
 ghost use Rattle.zs_script.specs.declared.refusal.Refusal.{Refusal};
 ghost use Rattle.zscan.specs.Mirror.{told_at, HaveCause, SomeRose};
-ghost use Rattle.zscan.specs.Images.{head_of, is_zero, least_sectors, most_sectors, AreFit, IsImageFault, IsSizeFault, AreFresh};
+ghost use Rattle.zscan.specs.Images.{head_of, is_zero, least_sectors, most_sectors, AreFit, AreBlank, SomeWritten, IsImageFault, IsSizeFault, AreFresh};
 
 use crate::mirror::read_device;
 use std::alloc::{AllocError, AllocFailed, Global};
@@ -100,8 +100,8 @@ fn is_zero(bytes: &[u8]) -> bool
 
 /// Whether the head of each image is blank.
 fn are_blank<D: Device>(alloc: Global, devices: &mut [D]) -> Result<bool, BayFault>
-    ensures blank { IfOk result (λ blank. blank ≡ true → (k : ℕ) → k < length devices.old → Told (told_at (map D.told devices.old) k) (λ bytes. is_zero (head_of (slice_index (map D.size devices.old) k) bytes) ≡ true)) }
-    ensures written { IfOk result (λ blank. blank ≡ false → (k : ℕ) × (k < length devices.old) × Told (told_at (map D.told devices.old) k) (λ bytes. is_zero (head_of (slice_index (map D.size devices.old) k) bytes) ≡ false)) }
+    ensures blank { IfOk result (λ blank. blank ≡ true → AreBlank (map D.size devices.old) (map D.told devices.old)) }
+    ensures written { IfOk result (λ blank. blank ≡ false → SomeWritten (map D.size devices.old) (map D.told devices.old)) }
     ensures told { map D.told devices.new ≡ map D.told devices.old }
     ensures sizes { map D.size devices.new ≡ map D.size devices.old }
     ensures cause { HaveCause (map D.faults devices.old) (map D.faults devices.new) result }
@@ -114,8 +114,8 @@ fn are_blank<D: Device>(alloc: Global, devices: &mut [D]) -> Result<bool, BayFau
 
 fn are_blank_by<D: Device>(devices: &mut [D], buf: &mut [u8]) -> Result<bool, BayFault>
     requires size { length buf.old ≡ 2048 }
-    ensures blank { IfOk result (λ blank. blank ≡ true → (k : ℕ) → k < length devices.old → Told (told_at (map D.told devices.old) k) (λ bytes. is_zero (head_of (slice_index (map D.size devices.old) k) bytes) ≡ true)) }
-    ensures written { IfOk result (λ blank. blank ≡ false → (k : ℕ) × (k < length devices.old) × Told (told_at (map D.told devices.old) k) (λ bytes. is_zero (head_of (slice_index (map D.size devices.old) k) bytes) ≡ false)) }
+    ensures blank { IfOk result (λ blank. blank ≡ true → AreBlank (map D.size devices.old) (map D.told devices.old)) }
+    ensures written { IfOk result (λ blank. blank ≡ false → SomeWritten (map D.size devices.old) (map D.told devices.old)) }
     ensures told { map D.told devices.new ≡ map D.told devices.old }
     ensures sizes { map D.size devices.new ≡ map D.size devices.old }
     ensures cause { HaveCause (map D.faults devices.old) (map D.faults devices.new) result }

@@ -1,6 +1,6 @@
 //! What each line of a script does to the pool and its devices.
 
-ghost use Rattle.std.specs.Prelude.{◌≡◌, ◌≤◌, ◌<◌, ◌+◌, ◌*◌, ℕ, true, false, length, map, OnOk, OnErr, IfOk, Err, slice_index_or};
+ghost use Rattle.std.specs.Prelude.{◌≡◌, ◌≤◌, ◌<◌, ◌+◌, ◌*◌, ℕ, true, false, length, map, OnOk, OnErr, IfOk, IsErrOf, Err, slice_index_or};
 ghost use Rattle.std.specs.Option.{option_copied};
 ghost use Rattle.zs_core.specs.Steps.{LineStep};
 ghost use Rattle.zscan.specs.Mirror.{IsOn, HaveCause};
@@ -103,6 +103,7 @@ fn check_waiting<D: Device>(
     requires buf { length buf.old ≡ 131072 }
     ensures ready { OnOk result (IsReady pool.new) }
     ensures goes_on { OnOk result (GoesOn pool.old.history pool.new.history) }
+    ensures went_on { IsErrOf result BayFault.Failed → GoesOn pool.old.history pool.new.history }
     ensures sizes { map D.size devices.new ≡ map D.size devices.old }
     ensures cause { HaveCause (map D.faults devices.old) (map D.faults devices.new) result }
 {
@@ -131,6 +132,7 @@ fn check_batch<D: Device>(
     ensures fewer { IfOk result (λ more. more ≡ true → length pool.new.core.waiting < length pool.old.core.waiting) }
     ensures ready { OnOk result (IsReady pool.new) }
     ensures goes_on { OnOk result (GoesOn pool.old.history pool.new.history) }
+    ensures went_on { IsErrOf result BayFault.Failed → GoesOn pool.old.history pool.new.history }
     ensures sizes { map D.size devices.new ≡ map D.size devices.old }
     ensures cause { HaveCause (map D.faults devices.old) (map D.faults devices.new) result }
 {
@@ -158,6 +160,7 @@ fn sync<D: Device>(pool: &mut Pool, devices: &mut [D]) -> Result<(), BayFault>
     requires ready { IsReady pool.old }
     ensures ready { OnOk result (IsReady pool.new) }
     ensures goes_on { OnOk result (GoesOn pool.old.history pool.new.history) }
+    ensures went_on { IsErrOf result BayFault.Failed → GoesOn pool.old.history pool.new.history }
     ensures sizes { map D.size devices.new ≡ map D.size devices.old }
     ensures cause { HaveCause (map D.faults devices.old) (map D.faults devices.new) result }
 {
@@ -205,6 +208,7 @@ fn finish<D: Device>(
     requires buf { length buf.old ≡ 131072 }
     ensures ready { OnOk result (IsReady pool.new) }
     ensures goes_on { OnOk result (GoesOn pool.old.history pool.new.history) }
+    ensures went_on { IsErrOf result BayFault.Failed → GoesOn pool.old.history pool.new.history }
     ensures sizes { map D.size devices.new ≡ map D.size devices.old }
     ensures cause { HaveCause (map D.faults devices.old) (map D.faults devices.new) result }
 {
@@ -250,6 +254,7 @@ fn read<D: Device>(
     requires buf { length buf.old ≡ 131072 }
     ensures ready { OnOk result (IsReady pool.new) }
     ensures goes_on { OnOk result (GoesOn pool.old.history pool.new.history) }
+    ensures went_on { IsErrOf result BayFault.Failed → GoesOn pool.old.history pool.new.history }
     ensures sizes { map D.size devices.new ≡ map D.size devices.old }
     ensures cause { HaveCause (map D.faults devices.old) (map D.faults devices.new) result }
 {
@@ -304,6 +309,7 @@ pub fn run_line<D: Device>(
     requires buf { length buf.old ≡ 131072 }
     ensures ready { OnOk result (IsReady pool.new) }
     ensures goes_on { OnOk result (GoesOn pool.old.history pool.new.history) }
+    ensures went_on { IsErrOf result BayFault.Failed → GoesOn pool.old.history pool.new.history }
     ensures sizes { map D.size devices.new ≡ map D.size devices.old }
     ensures cause { HaveCause (map D.faults devices.old) (map D.faults devices.new) result }
 {

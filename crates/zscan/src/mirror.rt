@@ -5,7 +5,7 @@ ghost use Rattle.std.specs.List.{list_any};
 ghost use Rattle.zs_io.specs.Told.{Told, over};
 ghost use Rattle.zs_ledger.specs.declared.entry.CopyResult.TheVariants.{Missing};
 ghost use Rattle.sha2.specs.Sha256.{sha256};
-ghost use Rattle.zscan.specs.Mirror.{start_of, size_of, copy_in, has_sum, IsOn, told_at, told_after, letter, IsChecked, AreRead, IsEntryOf, HaveCause};
+ghost use Rattle.zscan.specs.Mirror.{start_of, size_of, copy_in, has_sum, IsOn, told_at, told_after, letter, IsChecked, AreRead, IsEntryOf, HaveCause, put_over, all_put_over};
 
 use crate::images::size_at;
 use zs_ids::Item;
@@ -339,21 +339,37 @@ fn sync_each<D: Device>(devices: &mut [D]) -> Result<(), BayFault>
     Ok(())
 }
 
-/// Writes each block to every device, in order, and then syncs each device once. That a pool's blocks lie on its devices
-/// is tested here, and not proved yet.
-pub fn put_blocks<D: Device>(devices: &mut [D], blocks: &[StagedBlock]) -> Result<(), BayFault>
+/// Writes a block to every device.
+fn put_block<D: Device>(devices: &mut [D], block: &StagedBlock) -> Result<(), BayFault>
+    ensures told { OnOk result (map D.told devices.new ≡ map (option_map (put_over block.now)) (map D.told devices.old)) }
     ensures sizes { map D.size devices.new ≡ map D.size devices.old }
     ensures cause { HaveCause (map D.faults devices.old) (map D.faults devices.new) result }
 {
-    if blocks.is_empty() {
+    let at = 512 * u64::from(block.bp.places[0].sector);
+    match write_each(devices, at, block.bytes.as_slice()) {
+        Ok(()) => Ok(()),
+        Err(fault) => Err(fault),
+    }
+}
+
+/// Writes each block to every device, in order, and then syncs each device once. That a pool's blocks lie on its devices
+/// is tested here, and not proved yet.
+pub fn put_blocks<D: Device>(devices: &mut [D], blocks: &[StagedBlock]) -> Result<(), BayFault>
+    ensures told { OnOk result (map D.told devices.new ≡ map (option_map (all_put_over blocks.now)) (map D.told devices.old)) }
+    ensures sizes { map D.size devices.new ≡ map D.size devices.old }
+    ensures cause { HaveCause (map D.faults devices.old) (map D.faults devices.new) result }
+{
+    if blocks.len() == 0 {
         return Ok(());
     }
     for block in blocks {
-        let at = 512 * u64::from(block.bp.places[0].sector);
-        match write_each(devices, at, block.bytes.as_slice()) {
+        match put_block(devices, block) {
             Ok(()) => {}
             Err(fault) => return Err(fault),
         }
     }
-    sync_each(devices)
+    match sync_each(devices) {
+        Ok(()) => Ok(()),
+        Err(fault) => Err(fault),
+    }
 }

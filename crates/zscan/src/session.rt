@@ -8,12 +8,13 @@ ghost use Rattle.zs_script.specs.Texts.{reply_text};
 ghost use Rattle.zscan.specs.Mirror.{HaveCause, SomeRose};
 ghost use Rattle.zscan.specs.Images.{AreFresh, HasFailed};
 ghost use Rattle.zscan.specs.Session.{IsInRange, IsReady, GoesOn, HasReason, HasSinkReason, IsFitFor, IsUnfitFor, AreFitFor, AreUnfitFor};
-ghost use Rattle.zscan.specs.Ending.{IsSessionStatus, history_in, devices_in};
+ghost use Rattle.zscan.specs.Puts.{Puts, PutsPart, PutsRefusal, refused_line};
+ghost use Rattle.zscan.specs.Ending.{IsSessionStatus, PutsRun, history_in, devices_in};
 
 use crate::images::{ImageFault, test_images};
 use crate::lines::{BLOCK_BYTES, commit, run_line};
 use crate::stop::Stop;
-use std::alloc::Global;
+use std::alloc::{AllocError, Global};
 use zs_core::{Event, Pool, Shape, Stage};
 use zs_ids::Seq;
 use zs_io::{BayFault, Device, Sink};
@@ -42,6 +43,7 @@ pub struct Ended<D: Drop> {
 /// Puts the text of an event's reply, if it has one.
 fn put_event<K: Sink>(alloc: Global, event: &Event, out: &mut K) -> Result<(), Stop>
     ensures told { OnOk result (K.told out.new ≡ option_map (λ bytes. bytes ++ reply_text event.now.by event.now.reply) (K.told out.old)) }
+    ensures part { OnErr result (PutsPart (reply_text event.now.by event.now.reply) (K.told out.old) (K.told out.new)) }
     ensures cause { HasSinkReason (K.faults out.old) (K.faults out.new) result }
 {
     let Ok(bytes) = text(alloc, event.by, &event.reply) else {
@@ -59,6 +61,7 @@ fn put_event<K: Sink>(alloc: Global, event: &Event, out: &mut K) -> Result<(), S
 /// Puts the texts of some events' replies.
 fn put_events<K: Sink>(alloc: Global, events: &[Event], out: &mut K) -> Result<(), Stop>
     ensures told { OnOk result (K.told out.new ≡ option_map (λ bytes. bytes ++ text_of events.now) (K.told out.old)) }
+    ensures part { OnErr result (PutsPart (text_of events.now) (K.told out.old) (K.told out.new)) }
     ensures cause { HasSinkReason (K.faults out.old) (K.faults out.new) result }
 {
     for event in events {
@@ -86,15 +89,19 @@ fn take_line<D: Device, K: Sink>(
     requires buf { length buf.old ≡ 131072 }
     ensures ready { OnOk result (IsReady pool.new) }
     ensures told { OnOk result ((start : Option (List ℕ)) → K.told out.old ≡ option_map (λ bytes. bytes ++ text_of pool.old.history) start → K.told out.new ≡ option_map (λ bytes. bytes ++ text_of pool.new.history) start) }
+    ensures part { OnErr result (result ≢ Err Stop.Memory → (start : Option (List ℕ)) → K.told out.old ≡ option_map (λ bytes. bytes ++ text_of pool.old.history) start → PutsPart (text_of pool.new.history) start (K.told out.new)) }
+    ensures run { IsErrOf result Stop.Memory → (start : Option (List ℕ)) → K.told out.old ≡ option_map (λ bytes. bytes ++ text_of pool.old.history) start → PutsRun start (K.told out.new) }
     ensures sizes { map D.size devices.new ≡ map D.size devices.old }
     ensures cause { HasReason (map D.faults devices.old) (map D.faults devices.new) (K.faults out.old) (K.faults out.new) result }
 {
+    pool.facts();
     let before = pool.history().len();
     match run_line(alloc, pool, devices, line, good, buf) {
         Ok(()) => {}
         Err(BayFault::Failed) => return Err(Stop::Device),
         Err(BayFault::Memory) => return Err(Stop::Memory),
     }
+    pool.facts();
     match put_events(alloc, &pool.history()[before..], out) {
         Ok(()) => Ok(()),
         Err(stop) => Err(stop),
@@ -116,9 +123,12 @@ fn run_lines<D: Device, K: Sink>(
     requires good { length good.old ≡ 131072 }
     requires buf { length buf.old ≡ 131072 }
     ensures told { OnOk result (K.told out.new ≡ option_map (λ bytes. bytes ++ text_of pool.new.history) (K.told out.old)) }
+    ensures part { result ≢ Err Stop.Memory → PutsPart (text_of pool.new.history) (K.told out.old) (K.told out.new) }
+    ensures run { IsErrOf result Stop.Memory → PutsRun (K.told out.old) (K.told out.new) }
     ensures sizes { map D.size devices.new ≡ map D.size devices.old }
     ensures cause { HasReason (map D.faults devices.old) (map D.faults devices.new) (K.faults out.old) (K.faults out.new) result }
 {
+    pool.facts();
     match put_events(alloc, pool.history(), out) {
         Ok(()) => {}
         Err(stop) => return Err(stop),
@@ -144,9 +154,12 @@ fn run_pool<D: Device, K: Sink>(
     requires up { pool.old.core.state.suspended ≡ false }
     requires width { length devices.old ≤ 4 }
     ensures told { OnOk result (K.told out.new ≡ option_map (λ bytes. bytes ++ text_of pool.new.history) (K.told out.old)) }
+    ensures part { result ≢ Err Stop.Memory → PutsPart (text_of pool.new.history) (K.told out.old) (K.told out.new) }
+    ensures run { IsErrOf result Stop.Memory → PutsRun (K.told out.old) (K.told out.new) }
     ensures sizes { map D.size devices.new ≡ map D.size devices.old }
     ensures cause { HasReason (map D.faults devices.old) (map D.faults devices.new) (K.faults out.old) (K.faults out.new) result }
 {
+    pool.facts();
     let Ok(()) = commit(pool) else {
         return Err(Stop::Memory);
     };
@@ -189,7 +202,7 @@ fn make_pool<D: Device>(
     ensures up { IfOk result (λ pool. pool.core.state.suspended ≡ false) }
     ensures width { OnOk result (length devices.old ≤ 4) }
     ensures fit { OnOk result (IsFitFor command.now (map D.size devices.old) (map D.told devices.old)) }
-    ensures unfit { (fault : Refusal) → IsErrOf result (ImageFault.Unfit fault) → IsUnfitFor command.now (map D.size devices.old) (map D.told devices.old) }
+    ensures unfit { (fault : Refusal) → IsErrOf result (ImageFault.Unfit fault) → IsUnfitFor command.now (map D.size devices.old) (map D.told devices.old) fault }
     ensures unread { IsErrOf result ImageFault.Unread → SomeRose (map D.faults devices.old) (map D.faults devices.new) }
     ensures counts { (result ≢ Err ImageFault.Unread) → map D.faults devices.new ≡ map D.faults devices.old }
     ensures told { map D.told devices.new ≡ map D.told devices.old }
@@ -256,11 +269,14 @@ impl<D: Drop> Ended<D> {
 }
 
 /// Puts the one line with which a program ends that made no pool. Where it can't be put, the status is 6.
+#[tactic(auto, using(crate::proofs::Texts::part_all))]
 pub fn end_with<D: Drop, K: Sink>(status: u8, line: &[u8], devices: Vec<D>, out: &mut K) -> Ended<D>
     requires { status ≢ 6 }
     ensures status { (result.status ≡ status) ⊎ (result.status ≡ 6) }
     ensures session { result.session ≡ None }
     ensures devices { result.devices.items ≡ devices.items }
+    ensures whole { result.status ≢ 6 → Puts line.now (K.told out.old) (K.told out.new) }
+    ensures part { PutsPart line.now (K.told out.old) (K.told out.new) }
     ensures sink { result.status ≡ 6 → Rose (K.faults out.old) (K.faults out.new) }
     ensures sink_kept { result.status ≢ 6 → K.faults out.new ≡ K.faults out.old }
 {
@@ -282,8 +298,13 @@ pub fn step_session<D: Device + Drop, K: Sink>(
     ensures text { result.status ≡ 0 → K.told out.new ≡ option_map (λ bytes. bytes ++ text_of (history_in result.session)) (K.told out.old) }
     ensures session { result.status ≡ 0 → IsSome result.session }
     ensures history { IfSome result.session (λ s. IsHistory s.pool.history s.pool.core.state) }
-    ensures fit { result.status ≡ 0 → AreFitFor lines.now (map D.size devices.items) (map D.told devices.items) }
-    ensures unfit { result.status ≡ 3 → AreUnfitFor lines.now (map D.size result.devices.items) (map D.told result.devices.items) }
+    ensures part { IsSome result.session → result.status ≢ 7 → PutsPart (text_of (history_in result.session)) (K.told out.old) (K.told out.new) }
+    ensures run { IsSome result.session → result.status ≡ 7 → PutsRun (K.told out.old) (K.told out.new) }
+    ensures fit { IsSome result.session → AreFitFor lines.now (map D.size devices.items) (map D.told devices.items) }
+    ensures unfit { result.status ≡ 3 → (fault : Refusal) × AreUnfitFor lines.now (map D.size result.devices.items) (map D.told result.devices.items) fault × Puts (refused_line fault) (K.told out.old) (K.told out.new) }
+    ensures unread { result.status ≡ 4 → result.session ≡ None → HasFailed (map D.faults result.devices.items) × Puts (refused_line Refusal.NotBlank) (K.told out.old) (K.told out.new) }
+    ensures cut { result.session ≡ None → PutsRefusal (K.told out.old) (K.told out.new) }
+    ensures silent { result.session ≡ None → result.status ≡ 7 → K.told out.new ≡ K.told out.old }
     ensures failed { result.status ≡ 4 → HasFailed (map D.faults (devices_in result.session result.devices.items)) }
     ensures unfailed { result.status ≢ 4 → result.status ≢ 6 → result.status ≢ 7 → AreFresh (map D.faults (devices_in result.session result.devices.items)) }
     ensures sink { result.status ≡ 6 → Rose (K.faults out.old) (K.faults out.new) }
@@ -301,6 +322,14 @@ pub fn step_session<D: Device + Drop, K: Sink>(
     }
 }
 
+/// The line that tells why a pool is refused.
+#[tactic(auto, using(crate::proofs::Refusals::refused_is))]
+fn refusal_text(alloc: Global, refusal: Refusal) -> Result<Vec<u8>, AllocError>
+    ensures { IfOk result (λ line. line.items ≡ refused_line refusal) }
+{
+    text(alloc, 0, &Reply::Refused(refusal))
+}
+
 /// Puts why a pool is refused.
 fn refuse<D: Drop, K: Sink>(
     alloc: Global,
@@ -313,10 +342,13 @@ fn refuse<D: Drop, K: Sink>(
     ensures status { (result.status ≡ status) ⊎ ((result.status ≡ 6) ⊎ (result.status ≡ 7)) }
     ensures session { result.session ≡ None }
     ensures devices { result.devices.items ≡ devices.items }
+    ensures whole { (result.status ≢ 6) → (result.status ≢ 7) → Puts (refused_line refusal) (K.told out.old) (K.told out.new) }
+    ensures part { PutsPart (refused_line refusal) (K.told out.old) (K.told out.new) }
+    ensures silent { result.status ≡ 7 → K.told out.new ≡ K.told out.old }
     ensures sink { result.status ≡ 6 → Rose (K.faults out.old) (K.faults out.new) }
     ensures sink_kept { result.status ≢ 6 → K.faults out.new ≡ K.faults out.old }
 {
-    let Ok(line) = text(alloc, 0, &Reply::Refused(refusal)) else {
+    let Ok(line) = refusal_text(alloc, refusal) else {
         return Ended::without(7, devices);
     };
     end_with(status, line.as_slice(), devices, out)
@@ -336,6 +368,8 @@ fn run_session<D: Device + Drop, K: Sink>(
     ensures status { IsSessionStatus result.status }
     ensures ran { result.status ≢ 3 }
     ensures text { result.status ≡ 0 → K.told out.new ≡ option_map (λ bytes. bytes ++ text_of (history_in result.session)) (K.told out.old) }
+    ensures part { result.status ≢ 7 → PutsPart (text_of (history_in result.session)) (K.told out.old) (K.told out.new) }
+    ensures run { result.status ≡ 7 → PutsRun (K.told out.old) (K.told out.new) }
     ensures session { IsSome result.session }
     ensures history { IfSome result.session (λ s. IsHistory s.pool.history s.pool.core.state) }
     ensures failed { result.status ≡ 4 → HasFailed (map D.faults (devices_in result.session result.devices.items)) }

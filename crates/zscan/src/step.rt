@@ -1,20 +1,21 @@
 //! The top call: a script from a source, run over the images of a bay, with its replies put into a sink.
 
-ghost use Rattle.std.specs.Prelude.{◌≡◌, ◌≢◌, ◌≤◌, ◌<◌, ◌+◌, ◌-◌, ◌++◌, [], ◌⊎◌, ℕ, List, Option, None, Some, true, false, length, map, drop, take, option_map, OnOk, OnErr, IfOk, IfSome, IfNone, IsSome, IsErrOf, string_bytes};
+ghost use Rattle.std.specs.Prelude.{◌≡◌, ◌≢◌, ◌≤◌, ◌<◌, ◌+◌, ◌-◌, ◌++◌, [], ◌⊎◌, ℕ, List, Option, None, Some, true, false, length, map, drop, take, option_map, OnOk, OnErr, IfOk, IfSome, IfNone, IsSome, IsErrOf, string_bytes, codes};
 ghost use Rattle.std.specs.List.{list_all};
 ghost use Rattle.zs_core.specs.History.{text_of, IsHistory};
 ghost use Rattle.zs_io.specs.Faults.{Rose};
 ghost use Rattle.zs_io.specs.Told.{Told};
 ghost use Rattle.zscan.specs.Images.{AreFresh, HasFailed};
 ghost use Rattle.zscan.specs.Session.{AreFitFor, AreUnfitFor};
-ghost use Rattle.zscan.specs.Ending.{IsSessionStatus, history_in, devices_in};
-ghost use Rattle.zscan.specs.Step.{is_image, are_images, is_step, read_of, has_fault, lines_in};
+ghost use Rattle.zscan.specs.Ending.{PutsRun, history_in, devices_in};
+ghost use Rattle.zscan.specs.Puts.{Puts, PutsPart, PutsRefusal, fault_line, refused_line};
+ghost use Rattle.zscan.specs.Step.{is_image, are_images, is_step, read_of, has_fault, fault_text, lines_in};
 
 use crate::images::fetch_images;
 use crate::session::{Ended, end_with, step_session};
-use std::alloc::Global;
+use std::alloc::{AllocError, Global};
 use zs_io::{Bay, BayFault, Sink, Source};
-use zs_script::{ScriptFault, parse};
+use zs_script::{Refusal, ScriptFault, Why, parse};
 
 /// One more than the most bytes of a script.
 const READ_BYTES: usize = 16_777_217;
@@ -121,6 +122,36 @@ fn read_into<S: Source>(
     Ok(())
 }
 
+/// The line that tells a fault of a script.
+fn fault_text(alloc: Global, line: u32, why: Why) -> Result<Vec<u8>, AllocError>
+    ensures { IfOk result (λ text. text.items ≡ fault_line line why) }
+{
+    Ok(format!(in alloc; "script {line} {}\n", why.name())?.into_bytes())
+}
+
+/// Puts a fault of a script.
+fn tell_fault<D: Drop, K: Sink>(
+    alloc: Global,
+    line: u32,
+    why: Why,
+    devices: Vec<D>,
+    out: &mut K,
+) -> Ended<D>
+    ensures status { (result.status ≡ 2) ⊎ ((result.status ≡ 6) ⊎ (result.status ≡ 7)) }
+    ensures session { result.session ≡ None }
+    ensures devices { result.devices.items ≡ devices.items }
+    ensures whole { (result.status ≢ 6) → (result.status ≢ 7) → Puts (fault_line line why) (K.told out.old) (K.told out.new) }
+    ensures part { PutsPart (fault_line line why) (K.told out.old) (K.told out.new) }
+    ensures silent { result.status ≡ 7 → K.told out.new ≡ K.told out.old }
+    ensures sink { result.status ≡ 6 → Rose (K.faults out.old) (K.faults out.new) }
+    ensures sink_kept { result.status ≢ 6 → K.faults out.new ≡ K.faults out.old }
+{
+    let Ok(text) = fault_text(alloc, line, why) else {
+        return Ended::without(7, devices);
+    };
+    end_with(2, text.as_slice(), devices, out)
+}
+
 /// Runs the program on the words of its command line, which are `step` and the names of one to sixteen images, in
 /// order. The script is read whole from the source, before the images are fetched from the bay; its replies are
 /// put into the sink.
@@ -140,8 +171,15 @@ pub fn run_step<B: Bay, S: Source, K: Sink>(
     ensures usage { is_step words.now ≡ false → (result.status ≡ 1) ⊎ (result.status ≡ 6) }
     ensures fault_only { result.status ≡ 2 → Told (S.left src.old) (λ script. has_fault script ≡ true) }
     ensures no_fault { (result.status ≡ 0) ⊎ ((result.status ≡ 3) ⊎ (result.status ≡ 4)) → Told (S.left src.old) (λ script. has_fault script ≡ false) }
-    ensures unfit_only { result.status ≡ 3 → Told (S.left src.old) (λ script. AreUnfitFor (lines_in script) (map B.Dev.size result.devices.items) (map B.Dev.told result.devices.items)) }
-    ensures fit { result.status ≡ 0 → Told (S.left src.old) (λ script. Told (B.left bay.old) (λ images. AreFitFor (lines_in script) (map B.Dev.size (take (length words.now - 1) images)) (map B.Dev.told (take (length words.now - 1) images)))) }
+    ensures usage_line { result.status ≡ 1 → Puts (codes "usage\n") (K.told out.old) (K.told out.new) }
+    ensures usage_cut { is_step words.now ≡ false → PutsPart (codes "usage\n") (K.told out.old) (K.told out.new) }
+    ensures fault_line { result.status ≡ 2 → Told (S.left src.old) (λ script. Puts (fault_text script) (K.told out.old) (K.told out.new)) }
+    ensures fault_cut { is_step words.now ≡ true → Told (S.left src.old) (λ script. has_fault script ≡ true → PutsPart (fault_text script) (K.told out.old) (K.told out.new)) }
+    ensures unfit { result.status ≡ 3 → Told (S.left src.old) (λ script. (fault : Refusal) × AreUnfitFor (lines_in script) (map B.Dev.size result.devices.items) (map B.Dev.told result.devices.items) fault × Puts (refused_line fault) (K.told out.old) (K.told out.new)) }
+    ensures unread { result.status ≡ 4 → result.session ≡ None → (Rose (B.faults bay.old) (B.faults bay.new) × (K.told out.new ≡ K.told out.old)) ⊎ (HasFailed (map B.Dev.faults result.devices.items) × Puts (refused_line Refusal.NotBlank) (K.told out.old) (K.told out.new)) }
+    ensures refused_cut { is_step words.now ≡ true → result.session ≡ None → Told (S.left src.old) (λ script. has_fault script ≡ false → PutsRefusal (K.told out.old) (K.told out.new)) }
+    ensures silent { (result.status ≡ 5) ⊎ ((result.status ≡ 7) × (result.session ≡ None)) → K.told out.new ≡ K.told out.old }
+    ensures fit { IsSome result.session → Told (S.left src.old) (λ script. Told (B.left bay.old) (λ images. AreFitFor (lines_in script) (map B.Dev.size (take (length words.now - 1) images)) (map B.Dev.told (take (length words.now - 1) images)))) }
     ensures failed { result.status ≡ 4 → Rose (B.faults bay.old) (B.faults bay.new) ⊎ HasFailed (map B.Dev.faults (devices_in result.session result.devices.items)) }
     ensures unfailed { result.status ≢ 4 → B.faults bay.new ≡ B.faults bay.old }
     ensures devices_unfailed { result.status ≢ 4 → result.status ≢ 6 → result.status ≢ 7 → AreFresh (map B.Dev.faults (devices_in result.session result.devices.items)) }
@@ -150,7 +188,10 @@ pub fn run_step<B: Bay, S: Source, K: Sink>(
     ensures sink { result.status ≡ 6 → Rose (K.faults out.old) (K.faults out.new) }
     ensures sink_kept { result.status ≢ 6 → K.faults out.new ≡ K.faults out.old }
     ensures text { result.status ≡ 0 → K.told out.new ≡ option_map (λ bytes. bytes ++ text_of (history_in result.session)) (K.told out.old) }
+    ensures part { IsSome result.session → result.status ≢ 7 → PutsPart (text_of (history_in result.session)) (K.told out.old) (K.told out.new) }
+    ensures run { IsSome result.session → result.status ≡ 7 → PutsRun (K.told out.old) (K.told out.new) }
     ensures session { result.status ≡ 0 → IsSome result.session }
+    ensures statuses { result.status ≤ 7 }
     ensures history { IfSome result.session (λ s. IsHistory s.pool.history s.pool.core.state) }
 {
     let mut devices = Vec::new(alloc);
@@ -164,12 +205,7 @@ pub fn run_step<B: Bay, S: Source, K: Sink>(
     };
     let lines = match parse(alloc, script.as_slice()) {
         Ok(lines) => lines,
-        Err(ScriptFault::Bad { line, why }) => {
-            let Ok(text) = format!(in alloc; "script {line} {}\n", why.name()) else {
-                return Ended::without(7, devices);
-            };
-            return end_with(2, text.as_bytes(), devices, out);
-        }
+        Err(ScriptFault::Bad { line, why }) => return tell_fault(alloc, line, why, devices, out),
         Err(ScriptFault::Memory) => return Ended::without(7, devices),
     };
     match fetch_images(&words[1..], bay, &mut devices) {

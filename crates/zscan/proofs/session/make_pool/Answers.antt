@@ -6,5 +6,5 @@ use Rattle.zscan.proofs.session.make_pool.Goals as goal
 
 pub returns-in-Err-test_images-clause-unfit : goal.returns-in-Err-test_images-clause-unfit
 returns-in-Err-test_images-clause-unfit g c fault is =
-    subst (λ (line : Command). IsUnfitFor line (map g.D.Device.size c.args.devices.now) (map g.D.Device.told c.args.devices.now)) (sym c.in-Pool.is)
-    (fault, c.in-Err-test_images.ensures.unfit fault (same_error is))
+    subst (λ (line : Command). IsUnfitFor line (map g.D.Device.size c.args.devices.now) (map g.D.Device.told c.args.devices.now) fault) (sym c.in-Pool.is)
+    (c.in-Err-test_images.ensures.unfit fault (same_error is))

@@ -1,5 +1,6 @@
 use Rattle.std.proofs.Common.{sym, ◌∙◌}
 use Rattle.zscan.proofs.Backs.{fresh_back}
+use Rattle.zscan.proofs.Refusals.{refusal_none}
 use Rattle.zscan.proofs.session.step_session.Goals as goal
 
 pub run_session-requires-clause-fresh : goal.run_session-requires-clause-fresh
@@ -7,3 +8,9 @@ run_session-requires-clause-fresh g c = fresh_back _ _ _ _ _ c.as_mut_slice.ensu
 
 pub returns-in-Err-Unfit-clause-unfailed : goal.returns-in-Err-Unfit-clause-unfailed
 returns-in-Err-Unfit-clause-unfailed g c = λ four six seven. rw (c.refuse.ensures.session, c.refuse.ensures.devices) (fresh_back _ _ _ _ _ c.as_mut_slice.ensures.value c.as_mut_slice.ensures.len (c.make_pool.ensures.counts (λ h. let no_way = sym c.in-Err-Unfit.is ∙ h in cc)) c.requires)
+
+pub returns-in_default-clause-cut : goal.returns-in_default-clause-cut
+returns-in_default-clause-cut g c none = refusal_none (g.K.Sink.told c.args.out.now)
+
+pub returns-in-Err-Memory-clause-cut : goal.returns-in-Err-Memory-clause-cut
+returns-in-Err-Memory-clause-cut g c none = refusal_none (g.K.Sink.told c.args.out.now)
