@@ -167,3 +167,6 @@ fn opened<R: Files<File = File>>(files: &R, name: &str) -> io::Result<ImageFile>
         faults: 0,
     })
 }
+
+#[cfg(test)]
+mod tests;

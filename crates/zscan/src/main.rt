@@ -17,6 +17,8 @@ mod mirror;
 mod session;
 mod step;
 mod stop;
+#[cfg(test)]
+mod tests;
 
 use files::{ImageFiles, Input, Output};
 use std::alloc::AllocError;

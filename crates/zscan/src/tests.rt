@@ -1,0 +1,9 @@
+//! Runs of the program over sources, sinks and images that are made for the tests.
+
+mod devices;
+mod failures;
+mod images;
+mod refusals;
+mod repairs;
+mod rows;
+mod world;

@@ -1,0 +1,175 @@
+//! Images that lie: they take writes and lose them, and tell nothing of what they hold.
+
+ghost use Rattle.std.specs.Prelude.{◌≡◌, None};
+ghost use Rattle.std.proofs.Common.{rules};
+
+use std::alloc::Global;
+use zs_io::{Bay, BayFault, Device, SureDevice};
+
+/// An image that loses every write, and reads as zeros.
+#[derive(Drop)]
+pub struct Hollow {
+    bytes: u64,
+}
+
+impl Device for Hollow {
+    ghost size = { λ d. d.bytes };
+
+    ghost told = { λ _. None };
+
+    ghost may_leave = { λ _ _. ⊥ };
+
+    ghost moment = { λ _. 0 };
+
+    ghost left_since = { λ _ _ _. ⊥ };
+
+    ghost faults = { λ _. 0 };
+
+    fn bytes(&self) -> u64 {
+        self.bytes
+    }
+
+    fn read_at(&mut self, _at: u64, buf: &mut [u8]) -> Result<(), BayFault> {
+        buf.fill(0);
+        Ok(())
+    }
+
+    fn write_at(&mut self, _at: u64, _bytes: &[u8]) -> Result<(), BayFault> {
+        Ok(())
+    }
+
+    fn sync(&mut self) -> Result<(), BayFault> {
+        Ok(())
+    }
+
+    ghost told_is = { Prim.search rules };
+
+    ghost images_fit = { λ device c left. absurd left };
+
+    ghost counts_now = { λ device t c later left. left };
+
+    ghost only_now = { λ device c left. left };
+}
+
+/// A bay of hollow images of one size.
+#[derive(Drop)]
+pub struct HollowBay {
+    bytes: u64,
+}
+
+impl HollowBay {
+    /// A bay of images of that many bytes.
+    pub fn new(bytes: u64) -> Self {
+        HollowBay { bytes }
+    }
+}
+
+impl Bay for HollowBay {
+    type Dev = Hollow;
+
+    ghost left = { λ _. None };
+
+    ghost faults = { λ _. 0 };
+
+    fn fetch(&mut self, _name: &str) -> Result<Hollow, BayFault> {
+        Ok(Hollow { bytes: self.bytes })
+    }
+}
+
+/// An image in memory that loses the write of one number, counted from 0.
+#[derive(Drop)]
+pub struct Shaky {
+    disk: SureDevice,
+    loses: u64,
+    writes: u64,
+}
+
+impl Shaky {
+    /// How many writes it was given.
+    pub fn writes(&self) -> u64 {
+        self.writes
+    }
+
+    /// The bytes as they read.
+    pub fn into_bytes(self) -> Vec<u8> {
+        self.disk.into_bytes()
+    }
+}
+
+impl Device for Shaky {
+    ghost size = { λ d. ⟦<SureDevice as Device>⟧.size d.disk };
+
+    ghost told = { λ _. None };
+
+    ghost may_leave = { λ _ _. ⊥ };
+
+    ghost moment = { λ _. 0 };
+
+    ghost left_since = { λ _ _ _. ⊥ };
+
+    ghost faults = { λ _. 0 };
+
+    fn bytes(&self) -> u64 {
+        self.disk.bytes()
+    }
+
+    fn read_at(&mut self, at: u64, buf: &mut [u8]) -> Result<(), BayFault> {
+        self.disk.read_at(at, buf)
+    }
+
+    fn write_at(&mut self, at: u64, bytes: &[u8]) -> Result<(), BayFault> {
+        if self.writes != self.loses {
+            self.disk.write_at(at, bytes)?;
+        }
+        self.writes = self.writes.saturating_add(1);
+        Ok(())
+    }
+
+    fn sync(&mut self) -> Result<(), BayFault> {
+        self.disk.sync()
+    }
+
+    ghost told_is = { Prim.search rules };
+
+    ghost images_fit = { λ device c left. absurd left };
+
+    ghost counts_now = { λ device t c later left. left };
+
+    ghost only_now = { λ device c left. left };
+}
+
+/// A bay of blank shaky images of 512 sectors.
+#[derive(Drop)]
+pub struct ShakyBay {
+    alloc: Global,
+    losses: Vec<u64>,
+}
+
+impl ShakyBay {
+    /// A bay of as many images as there are numbers, each of which loses the write of its number.
+    pub fn new(alloc: Global, losses: Vec<u64>) -> Self {
+        ShakyBay { alloc, losses }
+    }
+}
+
+impl Bay for ShakyBay {
+    type Dev = Shaky;
+
+    ghost left = { λ _. None };
+
+    ghost faults = { λ _. 0 };
+
+    fn fetch(&mut self, _name: &str) -> Result<Shaky, BayFault> {
+        let loses = if self.losses.is_empty() {
+            u64::MAX
+        } else {
+            self.losses.remove(0)
+        };
+        let bytes = vec![in self.alloc; 0; 262_144]?;
+        Ok(Shaky {
+            disk: SureDevice::new(self.alloc, bytes),
+            loses,
+            writes: 0,
+        })
+    }
+}
