@@ -41,4 +41,6 @@ pub use script::parse;
 pub use texts::text;
 
 #[cfg(test)]
+mod reply_tests;
+#[cfg(test)]
 mod tests;
