@@ -1,0 +1,9 @@
+pub mod Counts
+pub mod Pieces
+pub mod Landings
+pub mod Flights
+pub mod Marking
+pub mod Batches
+pub mod Orderly
+pub mod Judging
+pub mod Putting

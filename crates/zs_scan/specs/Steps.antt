@@ -1,0 +1,103 @@
+-- What each call makes of a scan.
+use Rattle.std.specs.Prelude.{◌≡◌, ℕ, ◌+◌, ◌==◌, ◌&&◌, Bool, true, false, not, List, [], ◌∷◌, ◌++◌, map, filter, Some, None, if◌then◌else◌}
+use Rattle.zs_ids.specs.declared.block.Piece.{Piece}
+use Rattle.zs_ids.specs.declared.block.Item.{Item}
+use Rattle.zs_ids.specs.Graph.{Has}
+use Rattle.zs_ledger.specs.declared.entry.Entry.{Entry}
+use Rattle.zs_phys.specs.declared.scope.Scope.{Scope}
+use Rattle.zs_phys.specs.declared.scope.Kind.{Kind}
+use Rattle.zs_phys.specs.declared.scope.Kind.TheVariants.{Idle, Scrub, Resilver}
+use Rattle.zs_phys.specs.Handlers.{idle}
+use Rattle.zs_cover.specs.Laws.{started}
+use Rattle.zs_walk.specs.Walking.{runs}
+use Rattle.zs_phys.specs.declared.phys.At.TheVariants.{Nowhere}
+use Rattle.zs_phys.specs.declared.phys.Status.TheVariants.{Scanning, Finished}
+use Rattle.std.specs.List.{list_any}
+use Rattle.std.specs.List.Sorted.{IsStrictlySortedBy}
+use Rattle.zs_queue.specs.Waiting.{without, piece_cmp}
+use Rattle.zs_scan.specs.declared.batch.Batch.{Batch}
+use Rattle.zs_scan.specs.View.{Mark, ScanView, is_same, mark_of, flies_in, MarksAs, pieces_in, has_item}
+
+-- the scan is a scrub
+abbrev pub is_scrub : Kind → Bool
+is_scrub Idle = false
+is_scrub Scrub = true
+is_scrub Resilver = false
+
+-- the scope of a pool that never had a scan
+abbrev pub no_scope : ℕ → Scope
+no_scope width = record { kind = Idle; min = 0; max = 0; width = width; dirty0 = [] }
+
+-- a scan that never ran
+abbrev pub blank_scan : ℕ → ℕ → ℕ → ScanView
+blank_scan width limit room = record { scope = no_scope width; run = idle; checked = []; room = room; waiting = []; limit = limit; marks = []; flight = []; batches = 0 }
+
+-- the scope of a scrub that starts in a transaction group
+abbrev pub scrub_scope : ℕ → ℕ → Scope
+scrub_scope width t = record { kind = Scrub; min = 0; max = t; width = width; dirty0 = [] }
+
+-- a scrub starts: nothing is checked, waits or flies; the batches in flight stay there, and get no entries
+abbrev pub scrub_started : ℕ → ℕ → ScanView → ScanView
+scrub_started t away v = record v { scope = scrub_scope v.scope.width t; run = started away; checked = []; waiting = []; marks = [] }
+
+-- a scan is running that is not a paused scrub
+abbrev pub is_busy : ScanView → Bool
+is_busy v = runs v.run.status && not (v.run.paused && is_scrub v.scope.kind)
+
+-- a scrub starts, or one that is paused is resumed
+abbrev pub after_start : ℕ → ℕ → ScanView → ScanView
+after_start t away v = if runs v.run.status then record v { run = record v.run { paused = false } } else scrub_started t away v
+
+-- a batch was taken: its pieces no longer wait, and fly in it
+pub record Taken (old : ScanView) (b : Batch) (new : ScanView) : Type 0 where
+  pub rest : new ≡ record old { waiting = without old.waiting (pieces_in b.items); marks = new.marks; flight = old.flight ++ b ∷ []; batches = old.batches + 1; room = new.room }
+  pub marks : (q : Piece) → mark_of new.marks q ≡ (if has_item b.items q then Some (Some b.number) else mark_of old.marks q)
+
+-- the entries are those of the items, one for each, in order
+abbrev pub AreOf : List Item → List Entry → Type 0
+AreOf [] [] = Unit {0}
+AreOf (i ∷ is) (e ∷ es) = (e.piece ≡ i.piece) × (e.sectors ≡ i.sectors) × (e.sum ≡ i.sum) × AreOf is es
+AreOf [] (e ∷ es) = ⊥
+AreOf (i ∷ is) [] = ⊥
+
+-- a batch of that number is in flight, and the entries are of its items
+pub record IsVerdict (v : ScanView) (number : ℕ) (entries : List Entry) : Type 0 where
+  pub batch : Batch
+  pub here : Has v.flight batch
+  pub named : batch.number ≡ number
+  pub of_items : AreOf batch.items entries
+
+-- the entries are of pieces in strictly rising order of address
+abbrev pub AreRising : List Entry → Type 0
+AreRising entries = IsStrictlySortedBy piece_cmp (map (λ e. e.piece) entries)
+
+-- an entry is of the piece
+abbrev pub has_entry : List Entry → Piece → Bool
+has_entry entries p = list_any (λ e. is_same e.piece p) entries
+
+-- of the entries of a batch those of pieces that still fly in it
+abbrev pub still_flying : List (Piece × Mark) → ℕ → List Entry → List Entry
+still_flying marks number entries = filter (λ e. flies_in number (mark_of marks e.piece)) entries
+
+-- a batch has its verdict: each of its pieces that still flies is checked, and the batch is no longer in flight
+pub record Judged (old : ScanView) (number : ℕ) (entries : List Entry) (new : ScanView) : Type 0 where
+  pub rest : new ≡ record old { checked = old.checked ++ still_flying old.marks number entries; marks = new.marks; flight = filter (λ b. not (b.number == number)) old.flight; room = new.room }
+  pub marks : (q : Piece) → mark_of new.marks q ≡ (if flies_in number (mark_of old.marks q) then None else mark_of old.marks q)
+
+-- a piece was freed: it neither waits nor flies
+pub record Freed (old : ScanView) (piece : Piece) (new : ScanView) : Type 0 where
+  pub rest : new ≡ record old { waiting = without old.waiting (piece ∷ []); marks = new.marks; room = new.room }
+  pub marks : MarksAs old.marks new.marks piece None
+
+-- the scan is complete: it runs and is not paused, its walk is at its end, and nothing waits or is in flight
+pub record IsComplete (v : ScanView) : Type 0 where
+  pub scans : v.run.status ≡ Scanning
+  pub goes_on : v.run.paused ≡ false
+  pub nowhere : v.run.at ≡ Nowhere
+  pub walked : v.run.todo ≡ []
+  pub drained : v.waiting ≡ []
+  pub landed : v.flight ≡ []
+
+-- the scan has finished
+abbrev pub finished : ScanView → ScanView
+finished v = record v { run = record v.run { status = Finished } }

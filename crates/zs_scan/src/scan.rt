@@ -1,0 +1,293 @@
+//! The scan.
+
+ghost use Rattle.std.specs.Prelude.{◌≡◌, ◌≤◌, ◌<◌, ◌+◌, ◌==◌, ◌↔◌, ◌≢◌, ◌∷◌, [], ℕ, true, false, None, Some, Err, length, filter, OnOk, OnErr, IfOk, is_some, not, IsTrue, if◌then◌else◌};
+ghost use Rattle.zs_ids.specs.declared.block.Piece.{Piece};
+ghost use Rattle.zs_phys.specs.Handlers.{idle};
+ghost use Rattle.zs_phys.specs.declared.scope.Kind.TheVariants.{Idle};
+ghost use Rattle.zs_phys.specs.declared.phys.Status.TheVariants.{Scanning};
+ghost use Rattle.zs_queue.specs.Waiting.{lowest, is_of};
+ghost use Rattle.zs_walk.specs.Walking.{runs};
+ghost use Rattle.zs_scan.specs.View.{ScanView, mark_of, is_flying, is_done};
+ghost use Rattle.zs_scan.specs.Kept.{IsOrderly};
+ghost use Rattle.zs_scan.specs.Steps.{blank_scan, is_busy, after_start, scrub_started, Taken, IsVerdict, Judged, Freed, IsComplete, finished, still_flying};
+
+use crate::batch::{Batch, ScanFault};
+use crate::landing::{land_all, remove_batch};
+use crate::marks::Marks;
+use crate::taking::{filled, fly_all, push_batch};
+use std::alloc::{AllocError, Global};
+use std::collections::VecDeque;
+use std::marker::Model;
+use zs_ids::{DsId, Item, Piece, Seq};
+use zs_ledger::{Entry, Ledger};
+use zs_phys::{At, Kind, Phys, Scope, Status, Todo};
+use zs_queue::{PlainQueue, Waiting};
+
+/// A scan.
+#[derive(Drop)]
+pub struct Scan {
+    pub(crate) alloc: Global,
+    pub(crate) scope: Scope,
+    pub(crate) run: Phys,
+    pub(crate) ledger: Ledger,
+    pub(crate) queue: PlainQueue,
+    pub(crate) marks: Marks,
+    pub(crate) flight: VecDeque<Batch>,
+    pub(crate) batches: u64,
+}
+
+impl Model for Scan {
+    ghost use Rattle.zs_walk.specs.Walking.{runs};
+    ghost use Rattle.zs_scan.specs.View.{ScanView};
+    ghost use Rattle.zs_scan.specs.Kept.{IsOrderly};
+
+    ghost Value = { ScanView };
+
+    ghost view = { λ s. record { scope = s.scope; run = s.run; checked = s.ledger.entries; room = s.ledger.room; waiting = s.queue.map.entries; limit = s.queue.limit; marks = s.marks; flight = s.flight.items; batches = s.batches } };
+
+    ghost invariant = { λ s. IsOrderly (record { scope = s.scope; run = s.run; checked = s.ledger.entries; room = s.ledger.room; waiting = s.queue.map.entries; limit = s.queue.limit; marks = s.marks; flight = s.flight.items; batches = s.batches }) };
+}
+
+impl Scan {
+    /// A scan that never ran, over mirrors of that width (1 to 4), for at most `limit` waiting pieces.
+    pub fn blank(alloc: Global, width: u8, limit: u32) -> Result<Scan, AllocError>
+        ensures { IfOk result (λ s. s ≡ blank_scan width limit s.room) }
+    {
+        let run = Phys::idle(alloc)?;
+        Ok(Scan {
+            alloc,
+            scope: Scope {
+                kind: Kind::Idle,
+                min: 0,
+                max: 0,
+                width,
+                dirty0: Seq::new(alloc),
+            },
+            run,
+            ledger: Ledger::new(alloc),
+            queue: PlainQueue::new(alloc, limit),
+            marks: Marks::new(alloc),
+            flight: VecDeque::new(alloc),
+            batches: 0,
+        })
+    }
+
+    /// What is true of each scan.
+    pub fn facts(&self)
+        ensures { IsOrderly self.now }
+    {
+        let _alloc = self.alloc;
+    }
+
+    /// What the scan examines.
+    pub fn scope(&self) -> &Scope
+        ensures { result.now ≡ self.now.scope }
+    {
+        &self.scope
+    }
+
+    /// Where its walk stands.
+    pub fn run(&self) -> &Phys
+        ensures { result.now ≡ self.now.run }
+    {
+        &self.run
+    }
+
+    /// What it has checked.
+    pub fn ledger(&self) -> &Ledger
+        ensures { result.now ≡ record { entries = self.now.checked; room = self.now.room } }
+    {
+        &self.ledger
+    }
+
+    /// How many pieces wait.
+    pub fn waiting(&self) -> u32
+        ensures { result ≡ length self.now.waiting }
+    {
+        self.queue.count()
+    }
+
+    /// How many pieces of a mirror wait.
+    pub fn waiting_of(&self, vdev: u8) -> u32
+        ensures { result ≡ length (filter (is_of vdev) self.now.waiting) }
+    {
+        self.queue.count_of(vdev)
+    }
+
+    /// How many pieces fly: those in flight that were not freed, and whose scan still runs.
+    pub fn flying(&self) -> usize
+        ensures { result ≡ length (filter is_flying self.now.marks) }
+    {
+        self.marks.flying()
+    }
+
+    /// Whether a batch is in flight.
+    pub fn is_in_flight(&self) -> bool
+        ensures { result ≡ not (length self.now.flight == 0) }
+    {
+        self.flight.len() != 0
+    }
+
+    /// Whether a piece is done: it is checked, waits or flies.
+    pub fn is_done(&self, piece: Piece) -> bool
+        ensures { result ≡ is_done self.now piece }
+    {
+        self.ledger.has(piece) || self.marks.get(piece).is_some()
+    }
+
+    /// Starts a scrub of what is born before the transaction group `t`, while these devices are offline, or resumes a
+    /// paused one. Nothing is checked then, nothing waits and nothing flies; batches that are in flight stay there.
+    /// Refused as `ScanBusy` exactly where a scan is running that is not a paused scrub. Takes no memory.
+    pub fn start_scrub(&mut self, t: u64, away: u32) -> Result<(), ScanFault>
+        ensures busy { result ≡ Err ScanFault.ScanBusy ↔ IsTrue (is_busy self.old) }
+        ensures memory { result ≢ Err ScanFault.Memory }
+        ensures ok { OnOk result (self.new ≡ record (after_start t away self.old) { room = self.new.room }) }
+        ensures err { OnErr result (self.new ≡ self.old) }
+    {
+        if self.is_running() {
+            return self.resume_scrub();
+        }
+        self.begin_scrub(t, away);
+        Ok(())
+    }
+
+    /// Whether a scan is running, paused or not.
+    pub fn is_running(&self) -> bool
+        ensures { result ≡ runs self.now.run.status }
+    {
+        match self.run.status {
+            Status::Scanning => true,
+            Status::Never | Status::Finished | Status::Canceled => false,
+        }
+    }
+
+    /// Starts a scrub.
+    fn begin_scrub(&mut self, t: u64, away: u32)
+        ensures { self.new ≡ record (scrub_started t away self.old) { room = self.new.room } }
+    {
+        self.scope.kind = Kind::Scrub;
+        self.scope.min = 0;
+        self.scope.max = t;
+        self.scope.dirty0 = Seq::new(self.alloc);
+        self.run.status = Status::Scanning;
+        self.run.paused = false;
+        self.run.away = away;
+        self.run.at = At::Nowhere;
+        self.run.curmin = 0;
+        self.run.curmax = 0;
+        self.run.again = false;
+        self.run.todo.clear();
+        self.run.todo.push(Todo {
+            id: DsId::ORIGIN,
+            min: 0,
+        });
+        self.ledger.clear();
+        self.queue.clear();
+        self.marks.clear();
+    }
+
+    /// Resumes a paused scrub.
+    fn resume_scrub(&mut self) -> Result<(), ScanFault>
+        requires { runs self.old.run.status ≡ true }
+        ensures busy { result ≡ Err ScanFault.ScanBusy ↔ IsTrue (is_busy self.old) }
+        ensures memory { result ≢ Err ScanFault.Memory }
+        ensures ok { OnOk result (self.new ≡ record self.old { run = record self.old.run { paused = false } }) }
+        ensures err { OnErr result (self.new ≡ self.old) }
+    {
+        if !self.run.paused || self.scope.kind != Kind::Scrub {
+            return Err(ScanFault::ScanBusy);
+        }
+        self.run.paused = false;
+        Ok(())
+    }
+
+    /// Takes the lowest pieces of a mirror that wait, at most `n` of them, at least 1, into a batch. The batch is empty,
+    /// and not in flight, exactly where none waits. Reserves the room of its entries. After want of memory all is as it
+    /// was.
+    pub fn take(&mut self, vdev: u8, n: u32, online: u32) -> Result<Batch, ScanFault>
+        requires { 1 ≤ n }
+        ensures batch { IfOk result (λ b. b ≡ record { number = self.old.batches; vdev = vdev; online = online; items = lowest self.old.waiting vdev n }) }
+        ensures taken { IfOk result (λ b. 1 ≤ length b.items → Taken self.old b self.new) }
+        ensures none { IfOk result (λ b. length b.items ≡ 0 → self.new ≡ record self.old { room = self.new.room }) }
+        ensures memory { OnErr result (result ≡ Err ScanFault.Memory) }
+        ensures err { OnErr result (self.new ≡ record self.old { room = self.new.room }) }
+    {
+        let number = self.batches;
+        if number == u64::MAX {
+            return Err(ScanFault::Memory);
+        }
+        if self.queue.count_of(vdev) == 0 {
+            return Ok(Batch {
+                number,
+                vdev,
+                online,
+                items: Seq::new(self.alloc),
+            });
+        }
+        let most = n.min(self.queue.count()) as usize;
+        let mut copy = Vec::new(self.alloc);
+        copy.reserve(most)?;
+        self.flight.reserve(1)?;
+        let flying = self.marks.flying();
+        if flying > usize::MAX - most {
+            return Err(ScanFault::Memory);
+        }
+        self.ledger.reserve(flying + most)?;
+        let items = self.queue.take(vdev, n)?;
+        fly_all(&mut self.marks, &items, number);
+        let copy = filled(copy, &items);
+        let kept = Batch {
+            number,
+            vdev,
+            online,
+            items: Seq::from_vec(copy),
+        };
+        push_batch(&mut self.flight, kept);
+        self.batches = number + 1;
+        Ok(Batch {
+            number,
+            vdev,
+            online,
+            items: Seq::from_vec(items),
+        })
+    }
+
+    /// Takes the verdict of a batch in flight: an entry for each of its items, in order. Puts those into the ledger
+    /// whose piece still flies in it, and answers how many these are; the batch is no longer in flight. Takes no memory.
+    pub fn verdict(&mut self, number: u64, entries: &[Entry]) -> usize
+        requires { IsVerdict self.old number entries.now }
+        ensures made { result ≡ length (still_flying self.old.marks number entries.now) }
+        ensures judged { Judged self.old number entries.now self.new }
+    {
+        let made = land_all(&mut self.marks, &mut self.ledger, number, entries);
+        remove_batch(&mut self.flight, number);
+        made
+    }
+
+    /// A piece was freed: it no longer waits, or if it flies it gets no entry. Answers whether it waited or flew. Takes
+    /// no memory.
+    pub fn freed(&mut self, piece: Piece) -> bool
+        ensures was { result ≡ is_some (mark_of self.old.marks piece) }
+        ensures freed { Freed self.old piece self.new }
+    {
+        let mark = self.marks.remove(piece);
+        self.queue.drop_piece(piece);
+        mark.is_some()
+    }
+
+    /// Finishes the scan, and answers whether it did: exactly where it is complete. Takes no memory.
+    pub fn finish(&mut self) -> bool
+        ensures complete { IsTrue result ↔ IsComplete self.old }
+        ensures done { result ≡ true → self.new ≡ finished self.old }
+        ensures rest { result ≡ false → self.new ≡ self.old }
+    {
+        if self.run.status != Status::Scanning || self.run.paused || self.run.at != At::Nowhere {
+            return false;
+        }
+        if self.run.todo.len() != 0 || self.queue.count() != 0 || self.flight.len() != 0 {
+            return false;
+        }
+        self.run.status = Status::Finished;
+        true
+    }
+}

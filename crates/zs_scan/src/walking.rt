@@ -1,0 +1,128 @@
+//! The turns of the walk, with what they put into the queue.
+
+ghost use Rattle.std.specs.Prelude.{◌≡◌, ◌<◌, ◌≤◌, true, false, length, OnOk, OnErr, IfOk, IsErrOf, IfSome, is_some};
+ghost use Rattle.zs_queue.specs.Waiting.{waits, with_item};
+ghost use Rattle.zs_walk.specs.Walking.{MayWalk};
+ghost use Rattle.zs_scan.specs.Walks.{Walked, IsWanted, Put, PutIf, IsFull, turn_of, item_of, item_put};
+
+use crate::batch::{ScanFault, Turn};
+use crate::scan::Scan;
+use crate::scope::in_scope;
+use zs_ids::{Bp, Item, Piece};
+use zs_phys::Step;
+use zs_queue::{PlainQueue, Waiting};
+use zs_walk::{Datasets, advance, visit};
+
+/// The item at the first place of a block.
+pub fn item_of(bp: &Bp) -> Item
+    ensures { result ≡ item_of bp.now }
+{
+    Item {
+        piece: Piece {
+            place: bp.places[0],
+            birth: bp.birth,
+        },
+        sectors: bp.sectors,
+        sum: bp.sum,
+    }
+}
+
+/// What a turn is called.
+fn turn_of(step: &Step) -> Turn
+    ensures { result ≡ turn_of step.now }
+{
+    match step {
+        Step::Nothing => Turn::Nothing,
+        Step::Skip => Turn::Skip,
+        Step::Enter(_, _) => Turn::Enter,
+        Step::At(_, _) => Turn::At,
+        Step::End(_) => Turn::End,
+    }
+}
+
+impl Scan {
+    /// Makes the next turn of the walk over the datasets, and answers what it was. Refused as `Full` exactly where the
+    /// turn would put a piece and as many wait as the limit allows; nothing has changed then, nor after want of memory.
+    pub fn walk_step<G: Datasets>(&mut self, graph: &G) -> Result<Turn, ScanFault>
+        requires { MayWalk (G.datasets graph.now) self.old.scope self.old.run }
+        ensures turn { IfOk result (λ turn. Walked (G.datasets graph.now) self.old turn self.new) }
+        ensures goes_on { IfOk result (λ turn. MayWalk (G.datasets graph.now) self.new.scope self.new.run) }
+        ensures full { IsErrOf result ScanFault.Full → IsFull (G.datasets graph.now) self.old }
+        ensures busy { IsErrOf result ScanFault.ScanBusy → ⊥ }
+        ensures err { OnErr result (self.new ≡ self.old) }
+    {
+        let step = visit(graph, &self.scope, &self.run);
+        let item = self.item_put(&step);
+        self.put_if(item)?;
+        advance(graph, &self.scope, &mut self.run, &step);
+        Ok(turn_of(&step))
+    }
+
+    /// The item that a turn puts into the queue.
+    fn item_put(&self, step: &Step) -> Option<Item>
+        ensures { result ≡ item_put self.now step.now }
+    {
+        let Step::At(_, bp) = step else {
+            return None;
+        };
+        let item = item_of(bp);
+        if bp.birth <= self.run.curmax
+            && in_scope(&self.scope, &item.piece)
+            && !self.is_done(item.piece)
+        {
+            return Some(item);
+        }
+        None
+    }
+
+    /// Puts an item into the queue, if there is one; its piece is in scope and not done, and a scan runs.
+    fn put_if(&mut self, item: Option<Item>) -> Result<(), ScanFault>
+        requires { IfSome item (IsWanted self.old) }
+        ensures ok { OnOk result (PutIf self.old item self.new) }
+        ensures full { IsErrOf result ScanFault.Full → (is_some item ≡ true) × (length self.old.waiting ≡ self.old.limit) }
+        ensures busy { IsErrOf result ScanFault.ScanBusy → ⊥ }
+        ensures err { OnErr result (self.new ≡ self.old) }
+    {
+        match item {
+            Some(item) => self.put(item),
+            None => Ok(()),
+        }
+    }
+
+    /// Puts an item into the queue whose piece is in scope and not done. A scan runs.
+    fn put(&mut self, item: Item) -> Result<(), ScanFault>
+        requires { IsWanted self.old item }
+        ensures ok { OnOk result (Put self.old item self.new) }
+        ensures full { IsErrOf result ScanFault.Full → length self.old.waiting ≡ self.old.limit }
+        ensures busy { IsErrOf result ScanFault.ScanBusy → ⊥ }
+        ensures err { OnErr result (self.new ≡ self.old) }
+    {
+        put_waiting(&mut self.queue, item)?;
+        match self.marks.wait(item.piece) {
+            Ok(()) => Ok(()),
+            Err(_) => {
+                self.queue.drop_piece(item.piece);
+                Err(ScanFault::Memory)
+            }
+        }
+    }
+}
+
+/// Puts an item whose piece does not wait into the queue.
+fn put_waiting(queue: &mut PlainQueue, item: Item) -> Result<(), ScanFault>
+    requires { waits (⟦<PlainQueue as Waiting>⟧.items queue.old) item.piece ≡ false }
+    ensures ok { OnOk result (⟦<PlainQueue as Waiting>⟧.items queue.new ≡ with_item (⟦<PlainQueue as Waiting>⟧.items queue.old) item) }
+    ensures room { OnOk result (length (⟦<PlainQueue as Waiting>⟧.items queue.old) < ⟦<PlainQueue as Waiting>⟧.limit_of queue.old) }
+    ensures full { IsErrOf result ScanFault.Full → ⟦<PlainQueue as Waiting>⟧.limit_of queue.old ≤ length (⟦<PlainQueue as Waiting>⟧.items queue.old) }
+    ensures busy { IsErrOf result ScanFault.ScanBusy → ⊥ }
+    ensures limit { ⟦<PlainQueue as Waiting>⟧.limit_of queue.new ≡ ⟦<PlainQueue as Waiting>⟧.limit_of queue.old }
+    ensures err { OnErr result (⟦<PlainQueue as Waiting>⟧.items queue.new ≡ ⟦<PlainQueue as Waiting>⟧.items queue.old) }
+{
+    if queue.count() >= queue.limit() {
+        return Err(ScanFault::Full);
+    }
+    match queue.put(item) {
+        Ok(()) => Ok(()),
+        Err(_) => Err(ScanFault::Memory),
+    }
+}
