@@ -1,9 +1,34 @@
-//! A scrub that starts, with nothing to walk yet.
+//! A scrub of a head with one record, with ample memory.
 
-use crate::{Scan, ScanFault};
+ghost use Rattle.std.specs.Prelude.{◌≡◌, IfOk};
+ghost use Rattle.zs_cover.specs.Laws.{started};
+ghost use Rattle.zs_walk.specs.Examples.{block, one_head, one_record, scrub_up_to};
+ghost use Rattle.zs_walk.specs.Walking.{MayWalk};
+
+use crate::{Scan, ScanFault, Turn};
+use std::alloc::{AllocError, Global};
 use std::test::Fail;
-use zs_ids::{Piece, Place};
+use zs_flat::Flat;
+use zs_ids::{Blocks, Bp, DsId, Item, Key, Piece, Place};
+use zs_ledger::{CopyResult, Entry};
 use zs_phys::{At, Kind, Status};
+use zs_walk::Datasets;
+
+const HEAD: DsId = DsId(1);
+
+const DNODES: Key = Key {
+    object: 0,
+    rank: 0,
+    leaf: 0,
+    depth: 1,
+};
+
+const RECORD: Key = Key {
+    object: 1,
+    rank: 1,
+    leaf: 0,
+    depth: 3,
+};
 
 /// A piece.
 const PIECE: Piece = Piece {
@@ -13,6 +38,66 @@ const PIECE: Piece = Piece {
     },
     birth: 3,
 };
+
+/// The origin, and a head on it.
+#[derive(Drop)]
+struct OneHead {
+    head: Flat,
+}
+
+impl Datasets for OneHead {
+    ghost use Rattle.zs_walk.specs.Examples.{one_head};
+
+    ghost datasets = { λ g. one_head (⟦<Flat as Blocks>⟧.entries g.head) };
+
+    fn next_block(&self, id: DsId, from: Key, above: u64) -> Option<(Key, Bp)> {
+        if id.0 == 1 {
+            self.head.next_from(from, above)
+        } else {
+            None
+        }
+    }
+
+    fn creation(&self, id: DsId) -> Option<u64> {
+        if id.0 == 0 { Some(1) } else { None }
+    }
+
+    fn child_after(&self, id: DsId, after: Option<DsId>) -> Option<DsId> {
+        if id.0 != 0 {
+            return None;
+        }
+        match after {
+            None => Some(HEAD),
+            Some(last) => if last.0 < 1 { Some(HEAD) } else { None },
+        }
+    }
+}
+
+/// A block at a sector, of that many sectors, born in 3.
+fn block(sector: u32, sectors: u16, level: u8) -> Bp
+    ensures { result ≡ block sector sectors level }
+{
+    let unused = Place { vdev: 0, sector: 0 };
+    Bp {
+        count: 1,
+        places: [Place { vdev: 0, sector }, unused, unused],
+        sectors,
+        birth: 3,
+        level,
+        sum: [0; 32],
+    }
+}
+
+/// The blocks of a dataset with one record: the root at sector 296, the dnodes at 304, the record at 312.
+fn blocks(alloc: Global) -> Result<Flat, AllocError>
+    ensures { IfOk result (λ m. ⟦<Flat as Blocks>⟧.entries m ≡ one_record) }
+{
+    let mut map = Flat::empty(alloc);
+    map.replace(Key::ROOT, block(296, 8, 1))?;
+    map.replace(DNODES, block(304, 8, 0))?;
+    map.replace(RECORD, block(312, 1, 0))?;
+    Ok(map)
+}
 
 #[test]
 fn a_blank_scan_rests(rt: HostRuntime) -> Result<(), Fail> {
@@ -52,5 +137,103 @@ fn a_batch_of_nothing_is_not_in_flight(rt: HostRuntime) -> Result<(), Fail> {
         Err(_) => assert!(rt; false),
     }
     assert!(rt; !scan.is_in_flight());
+    Ok(())
+}
+
+/// Makes one turn behind the other, and answers whether they were just these.
+fn is_walk<G: Datasets>(scan: &mut Scan, graph: &G, want: &[Turn]) -> bool
+    requires { MayWalk (G.datasets graph.now) scan.old.scope scan.old.run }
+{
+    for turn in want {
+        match scan.walk_step(graph) {
+            Ok(made) => if made != *turn {
+                return false;
+            },
+            Err(_) => return false,
+        }
+    }
+    true
+}
+
+/// What was found of an item whose copies are good.
+fn entry_of(item: &Item) -> Entry
+    ensures piece { result.piece ≡ item.now.piece }
+    ensures sectors { result.sectors ≡ item.now.sectors }
+    ensures sum { result.sum ≡ item.now.sum }
+{
+    Entry {
+        piece: item.piece,
+        sectors: item.sectors,
+        sum: item.sum,
+        copies: [
+            CopyResult::Good,
+            CopyResult::Good,
+            CopyResult::Missing,
+            CopyResult::Missing,
+        ],
+        marks: [u64::MAX; 4],
+    }
+}
+
+/// A scrub of what is born before 4.
+fn scrub(alloc: Global) -> Result<Scan, ScanFault>
+    ensures scope { IfOk result (λ s. s.scope ≡ scrub_up_to 4) }
+    ensures run { IfOk result (λ s. s.run ≡ started 0) }
+{
+    let mut scan = Scan::blank(alloc, 2, 8)?;
+    scan.start_scrub(4, 0)?;
+    Ok(scan)
+}
+
+/// Checks the lowest piece that waits, and answers it with the number of entries that were made.
+fn check_one(scan: &mut Scan) -> Option<(Piece, usize)> {
+    let Ok(batch) = scan.take(0, 1, 3) else {
+        return None;
+    };
+    let [item] = batch.items.as_slice() else {
+        return None;
+    };
+    let made = scan.verdict(batch.number, &[entry_of(item)]);
+    Some((item.piece, made))
+}
+
+/// Checks what waits, piece by piece, and answers whether all went as it must for three pieces.
+fn has_checked(scan: &mut Scan) -> bool {
+    if scan.waiting() != 3 || scan.waiting_of(0) != 3 || scan.finish() {
+        return false;
+    }
+    match check_one(scan) {
+        Some((piece, 1)) => piece.place.sector == 296
+            && scan.waiting() == 2
+            && scan.is_done(piece)
+            && scan.ledger().len() == 1,
+        _ => false,
+    }
+}
+
+#[test]
+#[tactic(auto, using(zs_walk::proofs::Examples::head_walks))]
+fn walks_over_what_it_puts(rt: HostRuntime) -> Result<(), Fail> {
+    let graph = OneHead {
+        head: blocks(rt.alloc())?,
+    };
+    match scrub(rt.alloc()) {
+        Ok(scan) => {
+            let mut scan = scan;
+            let turns = [
+                Turn::Enter,
+                Turn::End,
+                Turn::Enter,
+                Turn::At,
+                Turn::At,
+                Turn::At,
+                Turn::End,
+                Turn::Nothing,
+            ];
+            assert!(rt; is_walk(&mut scan, &graph, &turns));
+            assert!(rt; has_checked(&mut scan));
+        }
+        Err(_) => assert!(rt; false),
+    }
     Ok(())
 }
