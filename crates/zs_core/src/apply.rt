@@ -1,7 +1,7 @@
 //! The end of a sync's data: the blocks are put over the head's own, the tasks run, and the scan may come to its
 //! end.
 
-ghost use Rattle.std.specs.Prelude.{◌≡◌, OnOk, OnErr, true, false, []};
+ghost use Rattle.std.specs.Prelude.{◌≡◌, OnOk, OnErr, true, false, [], None};
 ghost use Rattle.zs_core.specs.Steps.{all_replaced, DataStep};
 ghost use Rattle.zs_core.specs.Kept.{IsPutIn, Ends};
 
@@ -40,6 +40,7 @@ fn put_in(head: &mut Option<Head>, changes: &[(Key, Bp)]) -> Result<(), AllocErr
 /// Ends a scan that has seen all and has nothing in flight, and answers whether it did.
 fn end_scan(scan: &mut Scan) -> bool
     ensures ended { result ≡ true → Ends scan.old scan.new }
+    ensures complete { scan.old.status ≡ Status.Scanning → scan.old.next ≡ None → scan.old.flight ≡ None → result ≡ true }
     ensures goes_on { result ≡ false → scan.new ≡ scan.old }
 {
     if scan.status != Status::Scanning || scan.next.is_some() || scan.flight.is_some() {

@@ -109,11 +109,15 @@ fn take_from(
     ensures taken { IfOk result (λ v. v.items ≡ take n (entries_from (entries_in head.now) scan.now.min scan.now.max next.old)) }
     ensures rest { OnOk result (entries_from (entries_in head.now) scan.now.min scan.now.max next.new ≡ drop n (entries_from (entries_in head.now) scan.now.min scan.now.max next.old)) }
     ensures none { next.old ≡ None → next.new ≡ None }
+    ensures walked { IfOk result (λ v. length v.items < n → next.new ≡ None) }
     ensures err { OnErr result (next.new ≡ next.old) }
 {
     match head {
         Some(head) => take_entries(alloc, &head.map, scan.min, scan.max, next, n),
-        None => Ok(Vec::new(alloc)),
+        None => {
+            *next = None;
+            Ok(Vec::new(alloc))
+        }
     }
 }
 
@@ -131,6 +135,7 @@ impl Present {
         requires landed { self.old.flight ≡ None }
         ensures items { IfOk result (λ r. r.1.items ≡ map (λ e. item_of e.1) (take n self.old.waiting)) }
         ensures waiting { OnOk result (self.new.waiting ≡ drop n self.old.waiting) }
+        ensures walked { IfOk result (λ r. length r.1.items < n → self.new.walked ≡ true) }
         ensures state { self.new.state ≡ self.old.state }
         ensures flight { IfOk result (λ r. self.new.flight ≡ (if length r.1.items == 0 then None else Some (record { number = r.0; entries = take n self.old.waiting }))) }
         ensures err { OnErr result (self.new ≡ self.old) }

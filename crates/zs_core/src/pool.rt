@@ -358,6 +358,7 @@ impl Pool {
         ensures items { IfOk result (λ b. b.items ≡ map (λ e. item_of e.1) (take n self.old.core.waiting)) }
         ensures taken { IfOk result (λ b. length b.items ≡ length (take n self.old.core.waiting)) }
         ensures rest { OnOk result (self.new.core.waiting ≡ drop n self.old.core.waiting) }
+        ensures walked { IfOk result (λ b. length b.items < n → self.new.core.walked ≡ true) }
         ensures state { OnOk result (self.new.core.state ≡ self.old.core.state) }
         ensures err { OnErr result (self.new ≡ self.old) }
     {

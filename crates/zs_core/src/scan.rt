@@ -60,6 +60,7 @@ pub fn take_entries<T: Blocks>(
     ensures taken { IfOk result (λ v. v.items ≡ take n (entries_from (T.entries map.now) min max next.old)) }
     ensures rest { OnOk result (entries_from (T.entries map.now) min max next.new ≡ drop n (entries_from (T.entries map.now) min max next.old)) }
     ensures none { next.old ≡ None → next.new ≡ None }
+    ensures walked { IfOk result (λ v. length v.items < n → next.new ≡ None) }
     ensures err { OnErr result (next.new ≡ next.old) }
 {
     let mut found = Vec::new(alloc);
