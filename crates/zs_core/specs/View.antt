@@ -15,6 +15,8 @@ use Rattle.zs_core.specs.declared.parts.Closed.{Closed}
 use Rattle.zs_core.specs.declared.parts.Flying.{Flying}
 use Rattle.zs_core.specs.declared.parts.Scan.{Scan}
 use Rattle.zs_core.specs.declared.event.Event.{Event}
+use Rattle.zs_core.specs.declared.event.Step.{Step}
+use Rattle.zs_script.specs.declared.reply.Reply.{Reply}
 use Rattle.zs_core.specs.Waiting.{is_born_in, entries_from, item_of}
 use Rattle.zs_core.specs.Machine.{PoolState, Txg, Data, ScanState}
 use Rattle.zs_core.specs.Steps.{origin, no_name, AreChanges}
@@ -87,6 +89,10 @@ pub record PoolView : Type 0 where
 abbrev pub data_of : Option Head → Scan → Data
 data_of head scan = record { graph = graph_of head; next_id = next_id_of head; scan = scan_of scan }
 
--- one event was added to a history
+-- one event was added to a history: a client's, with its step and its reply
+abbrev pub AddsEvent : ℕ → Step → Reply → List Event → List Event → Type 0
+AddsEvent by step reply old new = new ≡ old ++ record { by = by; step = step; reply = reply } ∷ []
+
+-- some event was added to a history
 abbrev pub Adds : List Event → List Event → Type 0
 Adds old new = (e : Event) × (new ≡ old ++ e ∷ [])

@@ -6,7 +6,9 @@ ghost use Rattle.zs_core.specs.Machine.{is_running};
 ghost use Rattle.zs_core.specs.Steps.{LineStep};
 ghost use Rattle.zs_core.specs.Waiting.{item_of};
 ghost use Rattle.zs_core.specs.Reading.{IsGotFor};
-ghost use Rattle.zs_core.specs.View.{Adds};
+ghost use Rattle.zs_core.specs.View.{Adds, AddsEvent};
+ghost use Rattle.std.specs.Prelude.{ℕ, List};
+ghost use Rattle.zs_ids.specs.declared.block.Piece.{Piece};
 ghost use Rattle.zs_core.specs.History.{IsHistory};
 ghost use Rattle.zs_core.specs.Shapes.{IsShape, IsPoolCommand, IsPlain};
 
@@ -355,6 +357,8 @@ impl Pool {
         requires some { 1 ≤ n }
         requires up { self.old.core.state.suspended ≡ false }
         ensures adds { OnOk result (Adds self.old.history self.new.history) }
+        ensures event { IfOk result (λ b. (pieces : List Piece) × AddsEvent by (Step.Hold b.number vdev b.online pieces) Reply.Nothing self.old.history self.new.history) }
+        ensures mirror { IfOk result (λ b. b.vdev ≡ vdev) }
         ensures items { IfOk result (λ b. b.items ≡ map (λ e. item_of e.1) (take n self.old.core.waiting)) }
         ensures taken { IfOk result (λ b. length b.items ≡ length (take n self.old.core.waiting)) }
         ensures rest { OnOk result (self.new.core.waiting ≡ drop n self.old.core.waiting) }
@@ -397,6 +401,7 @@ impl Pool {
     pub fn verdict(&mut self, by: u8, v: &Verdicts) -> Result<usize, AllocError>
         requires up { self.old.core.state.suspended ≡ false }
         ensures adds { OnOk result (Adds self.old.history self.new.history) }
+        ensures event { IfOk result (λ made. (entries : List Entry) × AddsEvent by (Step.Verdict v.now.number entries) Reply.Nothing self.old.history self.new.history × (length entries ≡ made)) }
         ensures waiting { OnOk result (self.new.core.waiting ≡ self.old.core.waiting) }
         ensures stage { OnOk result (self.new.core.state.stage ≡ self.old.core.state.stage) }
         ensures up { OnOk result (self.new.core.state.suspended ≡ self.old.core.state.suspended) }
@@ -426,6 +431,8 @@ impl Pool {
         leaf: u32,
     ) -> Result<ReadPlan, PoolFault>
         ensures adds { OnOk result (Adds self.old.history self.new.history) }
+        ensures event { IfOk result (λ plan. AddsEvent by (Step.ReadBegin (Command.Read ds.now object leaf) (Some plan)) Reply.Nothing self.old.history self.new.history) }
+        ensures told { IsErrOf result PoolFault.Refused → (why : Refusal) × AddsEvent by (Step.ReadBegin (Command.Read ds.now object leaf) None) (Reply.Refused why) self.old.history self.new.history }
         ensures stage { OnOk result (self.new.core.state.stage ≡ self.old.core.state.stage) }
         ensures up { OnOk result (self.new.core.state.suspended ≡ self.old.core.state.suspended) }
         ensures refused { IsErrOf result PoolFault.Refused → Adds self.old.history self.new.history × (self.new.core ≡ self.old.core) }
@@ -470,6 +477,7 @@ impl Pool {
     ) -> Result<bool, AllocError>
         requires { IsGotFor plan (option_copied got) }
         ensures adds { IfOk result (λ ended. ended ≡ true → Adds self.old.history self.new.history) }
+        ensures event { IfOk result (λ ended. ended ≡ true → (reply : Reply) × AddsEvent by (Step.ReadEnd plan) reply self.old.history self.new.history) }
         ensures none { IfOk result (λ ended. ended ≡ false → self.new ≡ self.old) }
         ensures stage { OnOk result (self.new.core.state.stage ≡ self.old.core.state.stage) }
         ensures up { OnOk result (self.new.core.state.suspended ≡ self.old.core.state.suspended) }
