@@ -57,7 +57,8 @@ fn a_record_is_made_in_a_new_pool(rt: HostRuntime) -> Result<(), Fail> {
 fn a_scrub_of_a_pool_without_a_head_ends(rt: HostRuntime) -> Result<(), Fail> {
     let script = "pool 7 2 8 4 64\nscrub\nsync\nfs a\nfinish\nfinish\n";
     let ran = run(rt.alloc(), script)?;
-    let want = "pool 7 mirrors 1 txg 1\nqueued 2 1\nsync 2\ntask 1 ok\nqueued 3 1\nsync 3\ntask 1 ok\nfinished scrub 0 0\nrefused NoScan\n";
+    let want =
+        "pool 7 mirrors 1 txg 1\nqueued 2 1\nsync 2\ntask 1 ok\nqueued 3 1\nsync 3\ntask 1 ok\nfinished scrub 0 0\nrefused NoScan\n";
     assert_eq!(rt; ran.replies.as_slice(), want.as_bytes());
     assert_eq!(rt; ran.status, 0);
     Ok(())
