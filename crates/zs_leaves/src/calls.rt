@@ -21,10 +21,13 @@ pub fn map_rows(rt: &HostRuntime, n: u64, rows: &mut Vec<Row>) -> Result<(), Fau
     }
     put(rt, rows, "zs_flat replace", n, start)?;
     let start = Instant::now(rt)?;
+    let mut found: u64 = 0;
     for i in 0..n {
-        let _bp = map.get(key(mixed(i, n)));
+        if map.get(key(mixed(i, n))).is_some() {
+            found = found.saturating_add(1);
+        }
     }
-    put(rt, rows, "zs_flat get", n, start)?;
+    put(rt, rows, "zs_flat get", found, start)?;
     let start = Instant::now(rt)?;
     let mut from = Key::ROOT;
     for _ in 0..n {
@@ -75,10 +78,13 @@ pub fn ledger_rows(rt: &HostRuntime, n: u64, rows: &mut Vec<Row>) -> Result<(), 
     }
     put(rt, rows, "zs_ledger push", n, start)?;
     let start = Instant::now(rt)?;
+    let mut found: u64 = 0;
     for i in 0..n {
-        let _has = ledger.has(piece(mixed(i, n)));
+        if ledger.has(piece(mixed(i, n))) {
+            found = found.saturating_add(1);
+        }
     }
-    put(rt, rows, "zs_ledger has", n, start)?;
+    put(rt, rows, "zs_ledger has", found, start)?;
     let start = Instant::now(rt)?;
     let errors = ledger.errors()?;
     put(
