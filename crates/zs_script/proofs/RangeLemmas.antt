@@ -10,9 +10,9 @@ use Rattle.zs_ids.specs.declared.dataset.DsName.{DsName}
 use Rattle.zs_script.specs.Faults.{◌>>=◌}
 use Rattle.zs_script.specs.Verbs.{verb_of}
 use Rattle.zs_script.specs.Fields.{digits_from, number_of, size_of, blocks_of, name_of, ds_of}
-use Rattle.zs_script.specs.Rows.{any_number, object_of, levels_of, leaf_of, pool_with, pool_of, fs_of, make_with, make_of, read_of, alone_of, command_of}
+use Rattle.zs_script.specs.Rows.{any_number, object_of, levels_of, leaf_of, turns_of, vdev_of, pieces_of, pool_with, pool_of, fs_of, make_with, make_of, write_with, write_of, read_of, walk_of, issue_of, hold_of, alone_of, command_of}
 use Rattle.zs_script.specs.Script.{TextLine, is_skipped, is_text_byte, words_of, is_allowed, with_command, with_line, command_at, command_in, at_line, line_with, line_of, lines_from, some_line, nothing_before, lines_of, script_bytes, parsed_script}
-use Rattle.zs_script.specs.Lines.{IsPool, IsMake, IsRead, IsFirst, IsLater, IsScript}
+use Rattle.zs_script.specs.Lines.{IsPool, IsMake, IsRecord, IsWalk, IsBatch, IsFirst, IsLater, IsScript}
 use Rattle.zs_script.specs.declared.command.Command.{Command}
 use Rattle.zs_script.specs.declared.command.Command.TheVariants as commands
 use Rattle.zs_script.specs.declared.command.Line.{Line}
@@ -137,6 +137,31 @@ make_in command (_ ∷ ds ∷ object ∷ levels ∷ size ∷ fill ∷ []) h =
     make_fits d.0 o.0 l.0 s.0 f.0 command (number_in 1 2047 o.0 object o.1) (number_in 1 1 l.0 levels l.1) (size_in s.0 size s.1) f.2
 make_in command (a ∷ b ∷ c ∷ d ∷ e ∷ f ∷ g ∷ rest) h = cc
 
+write_fits : (d : DsName) (o l f : ℕ) (command : Command) → InRange 1 2047 o → InRange 0 262143 l → ◌≡◌ {A = Result Command Why} (Ok (commands.Write d o l f)) (Ok command) → IsLater command
+write_fits d o l f command oo ll is =
+    let fit : IsRecord o l = record { least_object = oo.low_is; most_object = oo.high_is; most_leaf = ll.high_is } in
+    subst IsLater (ok_same (commands.Write d o l f) command is) fit
+
+-- what a `write` line gives is in range
+write_in : (command : Command) (words : List (List ℕ)) → write_of words ≡ Ok command → IsLater command
+unfolding write_of write_with
+write_in command [] h = cc
+write_in command (a ∷ []) h = cc
+write_in command (a ∷ b ∷ []) h = cc
+write_in command (a ∷ b ∷ c ∷ []) h = cc
+write_in command (a ∷ b ∷ c ∷ d ∷ []) h = cc
+write_in command (_ ∷ ds ∷ object ∷ leaf ∷ fill ∷ []) h =
+    let kf : DsName → ℕ → ℕ → ℕ → Result Command Why = λ d o l f. Ok (commands.Write d o l f) in
+    let kl : DsName → ℕ → ℕ → Result Command Why = λ d o l. any_number fill >>= kf d o l in
+    let ko : DsName → ℕ → Result Command Why = λ d o. leaf_of leaf >>= kl d o in
+    let kd : DsName → Result Command Why = λ d. object_of object >>= ko d in
+    let d = bind_ok (ds_of ds) kd command h in
+    let o = bind_ok (object_of object) (ko d.0) command d.2 in
+    let l = bind_ok (leaf_of leaf) (kl d.0 o.0) command o.2 in
+    let f = bind_ok (any_number fill) (kf d.0 o.0 l.0) command l.2 in
+    write_fits d.0 o.0 l.0 f.0 command (number_in 1 2047 o.0 object o.1) (number_in 0 262143 l.0 leaf l.1) f.2
+write_in command (a ∷ b ∷ c ∷ d ∷ e ∷ f ∷ rest) h = cc
+
 -- what a `read` line gives is in range
 read_in : (command : Command) (words : List (List ℕ)) → read_of words ≡ Ok command → IsLater command
 unfolding read_of
@@ -153,7 +178,7 @@ read_in command (_ ∷ ds ∷ object ∷ leaf ∷ []) h =
     let l = bind_ok (leaf_of leaf) (kl d.0 o.0) command o.2 in
     let oo = number_in 1 2047 o.0 object o.1 in
     let ll = number_in 0 262143 l.0 leaf l.1 in
-    let fit : IsRead o.0 l.0 = record { least_object = oo.low_is; most_object = oo.high_is; most_leaf = ll.high_is } in
+    let fit : IsRecord o.0 l.0 = record { least_object = oo.low_is; most_object = oo.high_is; most_leaf = ll.high_is } in
     subst IsLater (ok_same (commands.Read d.0 o.0 l.0) command l.2) fit
 read_in command (a ∷ b ∷ c ∷ d ∷ e ∷ rest) h = cc
 
@@ -166,6 +191,52 @@ fs_in command (_ ∷ name ∷ []) h =
     let fit : IsLater (commands.Fs n.0) = tt in
     subst IsLater (ok_same (commands.Fs n.0) command n.2) fit
 fs_in command (a ∷ b ∷ c ∷ rest) h = cc
+
+-- what a `walk` line gives is in range
+walk_in : (command : Command) (words : List (List ℕ)) → walk_of words ≡ Ok command → IsLater command
+unfolding walk_of
+walk_in command [] h = cc
+walk_in command (a ∷ []) h = cc
+walk_in command (_ ∷ turns ∷ []) h =
+    let t = bind_ok (turns_of turns) (λ t. Ok (commands.Walk t)) command h in
+    let range = number_in 1 1000000 t.0 turns t.1 in
+    let fit : IsWalk t.0 = record { least_turns = range.low_is; most_turns = range.high_is } in
+    subst IsLater (ok_same (commands.Walk t.0) command t.2) fit
+walk_in command (a ∷ b ∷ c ∷ rest) h = cc
+
+batch_fits : (v p : ℕ) (vdev pieces : List ℕ) → vdev_of vdev ≡ Ok v → pieces_of pieces ≡ Ok p → IsBatch v p
+batch_fits v p vdev pieces vh ph =
+    let vv = number_in 0 255 v vdev vh in
+    let pp = number_in 1 1024 p pieces ph in
+    record { most_vdev = vv.high_is; least_pieces = pp.low_is; most_pieces = pp.high_is }
+
+-- what an `issue` line gives is in range
+issue_in : (command : Command) (words : List (List ℕ)) → issue_of words ≡ Ok command → IsLater command
+unfolding issue_of
+issue_in command [] h = cc
+issue_in command (a ∷ []) h = cc
+issue_in command (a ∷ b ∷ []) h = cc
+issue_in command (_ ∷ vdev ∷ pieces ∷ []) h =
+    let kp : ℕ → ℕ → Result Command Why = λ v p. Ok (commands.Issue v p) in
+    let kv : ℕ → Result Command Why = λ v. pieces_of pieces >>= kp v in
+    let v = bind_ok (vdev_of vdev) kv command h in
+    let p = bind_ok (pieces_of pieces) (kp v.0) command v.2 in
+    subst IsLater (ok_same (commands.Issue v.0 p.0) command p.2) (batch_fits v.0 p.0 vdev pieces v.1 p.1)
+issue_in command (a ∷ b ∷ c ∷ d ∷ rest) h = cc
+
+-- what a `hold` line gives is in range
+hold_in : (command : Command) (words : List (List ℕ)) → hold_of words ≡ Ok command → IsLater command
+unfolding hold_of
+hold_in command [] h = cc
+hold_in command (a ∷ []) h = cc
+hold_in command (a ∷ b ∷ []) h = cc
+hold_in command (_ ∷ vdev ∷ pieces ∷ []) h =
+    let kp : ℕ → ℕ → Result Command Why = λ v p. Ok (commands.Hold v p) in
+    let kv : ℕ → Result Command Why = λ v. pieces_of pieces >>= kp v in
+    let v = bind_ok (vdev_of vdev) kv command h in
+    let p = bind_ok (pieces_of pieces) (kp v.0) command v.2 in
+    subst IsLater (ok_same (commands.Hold v.0 p.0) command p.2) (batch_fits v.0 p.0 vdev pieces v.1 p.1)
+hold_in command (a ∷ b ∷ c ∷ d ∷ rest) h = cc
 
 alone_in : (alone command : Command) (words : List (List ℕ)) → alone_of alone words ≡ Ok command → IsLater alone → IsLater command
 unfolding alone_of
@@ -186,14 +257,26 @@ command_fits verbs.Fs false fs words command may h = cc
 command_fits verbs.Fs true fs words command may h = fs_in command words h
 command_fits verbs.Make false fs words command may h = cc
 command_fits verbs.Make true fs words command may h = make_in command words h
+command_fits verbs.Write false fs words command may h = cc
+command_fits verbs.Write true fs words command may h = write_in command words h
 command_fits verbs.Read false fs words command may h = cc
 command_fits verbs.Read true fs words command may h = read_in command words h
 command_fits verbs.Sync false fs words command may h = cc
 command_fits verbs.Sync true fs words command may h = alone_in commands.Sync command words h tt
 command_fits verbs.Scrub false fs words command may h = cc
 command_fits verbs.Scrub true fs words command may h = alone_in commands.Scrub command words h tt
+command_fits verbs.Walk false fs words command may h = cc
+command_fits verbs.Walk true fs words command may h = walk_in command words h
+command_fits verbs.Issue false fs words command may h = cc
+command_fits verbs.Issue true fs words command may h = issue_in command words h
+command_fits verbs.Hold false fs words command may h = cc
+command_fits verbs.Hold true fs words command may h = hold_in command words h
+command_fits verbs.Land false fs words command may h = cc
+command_fits verbs.Land true fs words command may h = alone_in commands.Land command words h tt
 command_fits verbs.Finish false fs words command may h = cc
 command_fits verbs.Finish true fs words command may h = alone_in commands.Finish command words h tt
+command_fits verbs.Status false fs words command may h = cc
+command_fits verbs.Status true fs words command may h = alone_in commands.Status command words h tt
 
 -- a line that is passed over, or one whose command may stand there
 FoundFits : Bool → Option Line → Type 0

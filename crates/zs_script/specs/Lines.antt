@@ -26,11 +26,22 @@ pub record IsMake (object height size : ℕ) : Type 0 where
   pub most_size : size ≤ 131072
   pub power : IsTrue (is_power_of_two size)
 
--- the numbers of a `read` line
-pub record IsRead (object leaf : ℕ) : Type 0 where
+-- the numbers of a record, in a `write` and in a `read` line
+pub record IsRecord (object leaf : ℕ) : Type 0 where
   pub least_object : 1 ≤ object
   pub most_object : object ≤ 2047
   pub most_leaf : leaf ≤ 262143
+
+-- the number of a `walk` line
+pub record IsWalk (turns : ℕ) : Type 0 where
+  pub least_turns : 1 ≤ turns
+  pub most_turns : turns ≤ 1000000
+
+-- the numbers of an `issue` and of a `hold` line
+pub record IsBatch (vdev pieces : ℕ) : Type 0 where
+  pub most_vdev : vdev ≤ 255
+  pub least_pieces : 1 ≤ pieces
+  pub most_pieces : pieces ≤ 1024
 
 -- the first command
 abbrev pub IsFirst : Command → Type 0
@@ -41,10 +52,16 @@ IsFirst _ = ⊥
 abbrev pub IsLater : Command → Type 0
 IsLater (commands.Fs name) = Unit {0}
 IsLater (commands.Make ds object levels size fill) = IsMake object levels size
-IsLater (commands.Read ds object leaf) = IsRead object leaf
+IsLater (commands.Write ds object leaf fill) = IsRecord object leaf
+IsLater (commands.Read ds object leaf) = IsRecord object leaf
 IsLater commands.Sync = Unit {0}
 IsLater commands.Scrub = Unit {0}
+IsLater (commands.Walk turns) = IsWalk turns
+IsLater (commands.Issue vdev pieces) = IsBatch vdev pieces
+IsLater (commands.Hold vdev pieces) = IsBatch vdev pieces
+IsLater commands.Land = Unit {0}
 IsLater commands.Finish = Unit {0}
+IsLater commands.Status = Unit {0}
 IsLater _ = ⊥
 
 -- a `pool` line, and then lines of other commands

@@ -26,6 +26,18 @@ levels_of word = number_of 1 1 word
 abbrev pub leaf_of : List ℕ → Result ℕ Why
 leaf_of word = number_of 0 262143 word
 
+-- how many turns a walk may take
+abbrev pub turns_of : List ℕ → Result ℕ Why
+turns_of word = number_of 1 1000000 word
+
+-- a mirror's number
+abbrev pub vdev_of : List ℕ → Result ℕ Why
+vdev_of word = number_of 0 255 word
+
+-- how many pieces a batch may have
+abbrev pub pieces_of : List ℕ → Result ℕ Why
+pieces_of word = number_of 1 1024 word
+
 -- the words of `pool`
 unfoldable pub pool_with : List ℕ → List ℕ → List ℕ → List ℕ → List ℕ → Result Command Why
 pool_with pool width limit every blocks = do
@@ -63,6 +75,20 @@ unfoldable pub make_of : List (List ℕ) → Result Command Why
 make_of (_ ∷ ds ∷ object ∷ levels ∷ size ∷ fill ∷ []) = make_with ds object levels size fill
 make_of _ = Err why.Count
 
+-- the words of `write`
+unfoldable pub write_with : List ℕ → List ℕ → List ℕ → List ℕ → Result Command Why
+write_with ds object leaf fill = do
+  ds ← ds_of ds
+  object ← object_of object
+  leaf ← leaf_of leaf
+  fill ← any_number fill
+  Ok (commands.Write ds object leaf fill)
+
+-- `write DS OBJ LEAF FILL`
+unfoldable pub write_of : List (List ℕ) → Result Command Why
+write_of (_ ∷ ds ∷ object ∷ leaf ∷ fill ∷ []) = write_with ds object leaf fill
+write_of _ = Err why.Count
+
 -- `read DS OBJ LEAF`
 unfoldable pub read_of : List (List ℕ) → Result Command Why
 read_of (_ ∷ ds ∷ object ∷ leaf ∷ []) = do
@@ -71,6 +97,29 @@ read_of (_ ∷ ds ∷ object ∷ leaf ∷ []) = do
   leaf ← leaf_of leaf
   Ok (commands.Read ds object leaf)
 read_of _ = Err why.Count
+
+-- `walk N`
+unfoldable pub walk_of : List (List ℕ) → Result Command Why
+walk_of (_ ∷ turns ∷ []) = do
+  turns ← turns_of turns
+  Ok (commands.Walk turns)
+walk_of _ = Err why.Count
+
+-- `issue V N`
+unfoldable pub issue_of : List (List ℕ) → Result Command Why
+issue_of (_ ∷ vdev ∷ pieces ∷ []) = do
+  vdev ← vdev_of vdev
+  pieces ← pieces_of pieces
+  Ok (commands.Issue vdev pieces)
+issue_of _ = Err why.Count
+
+-- `hold V N`
+unfoldable pub hold_of : List (List ℕ) → Result Command Why
+hold_of (_ ∷ vdev ∷ pieces ∷ []) = do
+  vdev ← vdev_of vdev
+  pieces ← pieces_of pieces
+  Ok (commands.Hold vdev pieces)
+hold_of _ = Err why.Count
 
 -- a command word alone
 unfoldable pub alone_of : Command → List (List ℕ) → Result Command Why
@@ -82,7 +131,13 @@ unfoldable pub command_of : Verb → List (List ℕ) → Result Command Why
 command_of verbs.Pool words = pool_of words
 command_of verbs.Fs words = fs_of words
 command_of verbs.Make words = make_of words
+command_of verbs.Write words = write_of words
 command_of verbs.Read words = read_of words
 command_of verbs.Sync words = alone_of commands.Sync words
 command_of verbs.Scrub words = alone_of commands.Scrub words
+command_of verbs.Walk words = walk_of words
+command_of verbs.Issue words = issue_of words
+command_of verbs.Hold words = hold_of words
+command_of verbs.Land words = alone_of commands.Land words
 command_of verbs.Finish words = alone_of commands.Finish words
+command_of verbs.Status words = alone_of commands.Status words

@@ -1,7 +1,7 @@
 //! A line's words, and the command that they make.
 
 ghost use Rattle.std.specs.Prelude.{◌≡◌, map};
-ghost use Rattle.zs_script.specs.Rows.{pool_with, pool_of, fs_of, make_with, make_of, read_of, alone_of, command_of};
+ghost use Rattle.zs_script.specs.Rows.{pool_with, pool_of, fs_of, make_with, make_of, write_with, write_of, read_of, walk_of, issue_of, hold_of, alone_of, command_of};
 
 use crate::command::{Command, Why};
 use crate::fields::{blocks, ds_name, name, number, size};
@@ -9,6 +9,21 @@ use crate::verb::Verb;
 
 /// The most levels of an object. Objects have one level in this version.
 const LEVELS: u64 = 1;
+
+/// The greatest number of an object.
+const LAST_OBJECT: u64 = 2047;
+
+/// The greatest number of a record.
+const LAST_LEAF: u64 = 262_143;
+
+/// The most turns that one line lets a walk take.
+const MOST_TURNS: u64 = 1_000_000;
+
+/// The greatest number of a mirror that a line may name.
+const LAST_VDEV: u64 = 255;
+
+/// The most pieces of a batch.
+const MOST_PIECES: u64 = 1024;
 
 /// The command of a line's words, of which the first is the command word.
 #[tactic(auto, unfolding(crate::specs::Rows::command_of))]
@@ -19,10 +34,16 @@ pub(crate) fn command_with(verb: Verb, words: &[&[u8]]) -> Result<Command, Why>
         Verb::Pool => pool(words),
         Verb::Fs => fs(words),
         Verb::Make => make(words),
+        Verb::Write => write(words),
         Verb::Read => read(words),
         Verb::Sync => alone(words, Command::Sync),
         Verb::Scrub => alone(words, Command::Scrub),
+        Verb::Walk => walk(words),
+        Verb::Issue => issue(words),
+        Verb::Hold => hold(words),
+        Verb::Land => alone(words, Command::Land),
         Verb::Finish => alone(words, Command::Finish),
+        Verb::Status => alone(words, Command::Status),
     }
 }
 
@@ -97,7 +118,7 @@ fn make_with(
     ensures { result ≡ make_with ds.now object.now levels.now bytes.now fill.now }
 {
     let ds = ds_name(ds)?;
-    let object = number(object, 1, 2047)? as u16;
+    let object = number(object, 1, LAST_OBJECT)? as u16;
     let levels = number(levels, 1, LEVELS)? as u8;
     let size = size(bytes)?;
     let fill = number(fill, 0, u64::MAX)?;
@@ -110,6 +131,33 @@ fn make_with(
     })
 }
 
+/// `write DS OBJ LEAF FILL`.
+#[tactic(auto, unfolding(crate::specs::Rows::write_of))]
+fn write(words: &[&[u8]]) -> Result<Command, Why>
+    ensures { result ≡ write_of (map (λ w. w.now) words.now) }
+{
+    match words {
+        [_, ds, object, leaf, fill] => write_with(ds, object, leaf, fill),
+        _ => Err(Why::Count),
+    }
+}
+
+#[tactic(auto, unfolding(crate::specs::Rows::write_with))]
+fn write_with(ds: &[u8], object: &[u8], leaf: &[u8], fill: &[u8]) -> Result<Command, Why>
+    ensures { result ≡ write_with ds.now object.now leaf.now fill.now }
+{
+    let ds = ds_name(ds)?;
+    let object = number(object, 1, LAST_OBJECT)? as u16;
+    let leaf = number(leaf, 0, LAST_LEAF)? as u32;
+    let fill = number(fill, 0, u64::MAX)?;
+    Ok(Command::Write {
+        ds,
+        object,
+        leaf,
+        fill,
+    })
+}
+
 /// `read DS OBJ LEAF`.
 #[tactic(auto, unfolding(crate::specs::Rows::read_of))]
 fn read(words: &[&[u8]]) -> Result<Command, Why>
@@ -118,9 +166,53 @@ fn read(words: &[&[u8]]) -> Result<Command, Why>
     match words {
         [_, ds, object, leaf] => {
             let ds = ds_name(ds)?;
-            let object = number(object, 1, 2047)? as u16;
-            let leaf = number(leaf, 0, 262_143)? as u32;
+            let object = number(object, 1, LAST_OBJECT)? as u16;
+            let leaf = number(leaf, 0, LAST_LEAF)? as u32;
             Ok(Command::Read { ds, object, leaf })
+        }
+        _ => Err(Why::Count),
+    }
+}
+
+/// `walk N`.
+#[tactic(auto, unfolding(crate::specs::Rows::walk_of))]
+fn walk(words: &[&[u8]]) -> Result<Command, Why>
+    ensures { result ≡ walk_of (map (λ w. w.now) words.now) }
+{
+    match words {
+        [_, turns] => {
+            let turns = number(turns, 1, MOST_TURNS)? as u32;
+            Ok(Command::Walk { turns })
+        }
+        _ => Err(Why::Count),
+    }
+}
+
+/// `issue V N`.
+#[tactic(auto, unfolding(crate::specs::Rows::issue_of))]
+fn issue(words: &[&[u8]]) -> Result<Command, Why>
+    ensures { result ≡ issue_of (map (λ w. w.now) words.now) }
+{
+    match words {
+        [_, vdev, pieces] => {
+            let vdev = number(vdev, 0, LAST_VDEV)? as u8;
+            let pieces = number(pieces, 1, MOST_PIECES)? as u32;
+            Ok(Command::Issue { vdev, pieces })
+        }
+        _ => Err(Why::Count),
+    }
+}
+
+/// `hold V N`.
+#[tactic(auto, unfolding(crate::specs::Rows::hold_of))]
+fn hold(words: &[&[u8]]) -> Result<Command, Why>
+    ensures { result ≡ hold_of (map (λ w. w.now) words.now) }
+{
+    match words {
+        [_, vdev, pieces] => {
+            let vdev = number(vdev, 0, LAST_VDEV)? as u8;
+            let pieces = number(pieces, 1, MOST_PIECES)? as u32;
+            Ok(Command::Hold { vdev, pieces })
         }
         _ => Err(Why::Count),
     }

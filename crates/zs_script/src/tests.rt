@@ -1,4 +1,4 @@
-//! Worked scripts and replies.
+//! Worked scripts.
 
 use crate::*;
 use std::alloc::{AllocError, Global};
@@ -59,7 +59,9 @@ fn faults_of_words(rt: HostRuntime) {
         ("pool 7 2 8 4 64\r", 1),
         ("pool\t7 2 8 4 64\n", 1),
         ("pool 7 2 8 4 64\nfs \x7f\n", 2),
-        ("pool 7 2 8 4 64\nwalk 10\n", 2),
+        ("pool 7 2 8 4 64\nlist\n", 2),
+        ("pool 7 2 8 4 64\nWalk 1\n", 2),
+        ("pool 7 2 8 4 64\nlands\n", 2),
     ];
     for (script, line) in cases {
         assert_eq!(rt;
@@ -77,6 +79,8 @@ fn faults_of_order(rt: HostRuntime) {
         ("\n# nothing\n", 1),
         ("fs a\npool 7 2 8 4 64\n", 1),
         ("\n\nsync", 3),
+        ("walk 0\n", 1),
+        ("status x\npool 7 2 8 4 64\n", 1),
         ("pool 7 2 8 4 64\npool\n", 2),
         ("pool 7 2 8 4 64\nfs a\nfs b\n", 3),
         ("pool 7 2 8 4 64\nfs a\nfs\n", 3),
@@ -197,6 +201,107 @@ fn greatest_values(rt: HostRuntime) -> Result<(), Fail> {
     Ok(())
 }
 
+#[test]
+fn least_and_greatest_numbers_of_scans(rt: HostRuntime) -> Result<(), Fail> {
+    let lines = [
+        "write a 1 0 0",
+        "write a@s 2047 262143 18446744073709551615",
+        "walk 1",
+        "walk 1000000",
+        "issue 0 1",
+        "issue 255 1024",
+        "hold 0 1",
+        "hold 255 1024",
+    ];
+    for line in lines {
+        assert_eq!(rt; fault_in(rt.alloc(), line)?, None, "at {line}");
+    }
+    Ok(())
+}
+
+#[test]
+fn numbers_past_their_range(rt: HostRuntime) -> Result<(), Fail> {
+    let lines = [
+        "write a 0 0 5",
+        "write a 2048 0 5",
+        "write a 1 262144 5",
+        "write a 1 0 18446744073709551616",
+        "walk 0",
+        "walk 1000001",
+        "issue 256 1",
+        "issue 0 0",
+        "issue 0 1025",
+        "hold 256 1",
+        "hold 0 0",
+        "hold 0 1025",
+        "hold 0 x",
+    ];
+    for line in lines {
+        assert_eq!(rt;
+            fault_in(rt.alloc(), line)?,
+            Some((3, Why::Number)),
+            "at {line}"
+        );
+    }
+    Ok(())
+}
+
+#[test]
+fn wrong_numbers_of_words(rt: HostRuntime) -> Result<(), Fail> {
+    let lines = [
+        "write A 0 0",
+        "write a 1 0 5 5",
+        "walk",
+        "walk 1 1",
+        "issue 0",
+        "issue 0 1 1",
+        "hold 0",
+        "hold 0 1 1",
+        "land 1",
+        "status 1",
+    ];
+    for line in lines {
+        assert_eq!(rt;
+            fault_in(rt.alloc(), line)?,
+            Some((3, Why::Count)),
+            "at {line}"
+        );
+    }
+    Ok(())
+}
+
+#[test]
+fn wrong_names_of_written_heads(rt: HostRuntime) -> Result<(), Fail> {
+    let lines = [
+        "write A 1 0 5",
+        "write abcdefghijklm 1 0 5",
+        "write a@ 0 0 5",
+    ];
+    for line in lines {
+        assert_eq!(rt;
+            fault_in(rt.alloc(), line)?,
+            Some((3, Why::Name)),
+            "at {line}"
+        );
+    }
+    Ok(())
+}
+
+#[test]
+fn the_first_of_two_faults(rt: HostRuntime) {
+    let cases = [
+        ("pool 7 2 8 4 64\nwalk 0\nissue\n", 2),
+        ("pool 7 2 8 4 64\n# walk\nland\nwalk 0\nwrit\n", 4),
+    ];
+    for (script, line) in cases {
+        assert_eq!(rt;
+            line_with(rt.alloc(), script, Why::Number),
+            line,
+            "at {script}"
+        );
+    }
+}
+
 /// Whether the line has the number and the command.
 fn is_line(line: Option<&Line>, number: u32, command: Command) -> bool {
     match line {
@@ -249,6 +354,36 @@ fn records_and_scans(rt: HostRuntime) {
     assert!(rt; is_line(lines.get(2), 3, Command::Scrub));
     assert!(rt; is_line(lines.get(3), 5, Command::Finish));
     assert!(rt; is_line(lines.get(4), 6, read));
+}
+
+#[test]
+fn batches_and_states(rt: HostRuntime) {
+    let script = b"pool 0 1 1 1 64\nstatus\nwalk 100\nissue 3 10\nhold 0 11\nland\nwrite a 1 2 6\n";
+    let lines = match parse(rt.alloc(), script) {
+        Ok(lines) => lines,
+        Err(_) => Vec::new(rt.alloc()),
+    };
+    let issue = Command::Issue {
+        vdev: 3,
+        pieces: 10,
+    };
+    let hold = Command::Hold {
+        vdev: 0,
+        pieces: 11,
+    };
+    let write = Command::Write {
+        ds: HEAD,
+        object: 1,
+        leaf: 2,
+        fill: 6,
+    };
+    assert_eq!(rt; lines.len(), 7);
+    assert!(rt; is_line(lines.get(1), 2, Command::Status));
+    assert!(rt; is_line(lines.get(2), 3, Command::Walk { turns: 100 }));
+    assert!(rt; is_line(lines.get(3), 4, issue));
+    assert!(rt; is_line(lines.get(4), 5, hold));
+    assert!(rt; is_line(lines.get(5), 6, Command::Land));
+    assert!(rt; is_line(lines.get(6), 7, write));
 }
 
 /// A script of this start, and behind it as many times the byte.

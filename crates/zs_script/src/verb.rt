@@ -11,10 +11,16 @@ pub(crate) enum Verb {
     Pool,
     Fs,
     Make,
+    Write,
     Read,
     Sync,
     Scrub,
+    Walk,
+    Issue,
+    Hold,
+    Land,
     Finish,
+    Status,
 }
 
 /// The command word of a line's words.
@@ -50,14 +56,26 @@ fn named(word: &[u8]) -> Result<Verb, Why>
         Ok(Verb::Fs)
     } else if word == b"make".as_slice() {
         Ok(Verb::Make)
+    } else if word == b"write".as_slice() {
+        Ok(Verb::Write)
     } else if word == b"read".as_slice() {
         Ok(Verb::Read)
     } else if word == b"sync".as_slice() {
         Ok(Verb::Sync)
     } else if word == b"scrub".as_slice() {
         Ok(Verb::Scrub)
+    } else if word == b"walk".as_slice() {
+        Ok(Verb::Walk)
+    } else if word == b"issue".as_slice() {
+        Ok(Verb::Issue)
+    } else if word == b"hold".as_slice() {
+        Ok(Verb::Hold)
+    } else if word == b"land".as_slice() {
+        Ok(Verb::Land)
     } else if word == b"finish".as_slice() {
         Ok(Verb::Finish)
+    } else if word == b"status".as_slice() {
+        Ok(Verb::Status)
     } else {
         Err(Why::Word)
     }
