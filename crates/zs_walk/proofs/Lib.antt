@@ -4,4 +4,7 @@ pub mod Rooms
 pub mod Ends
 pub mod OneStep
 pub mod Rising
+pub mod Passed
+pub mod Heads
+pub mod Left
 pub mod Examples
