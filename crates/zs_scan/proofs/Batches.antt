@@ -1,9 +1,10 @@
 -- The batches in flight: their numbers rise.
-use Rattle.std.proofs.Common.{◌≡◌, ℕ, ◌+◌, ◌<◌, ◌==◌, ◌++◌, Bool, true, false, not, cond, List, [], ◌∷◌, filter, refl, sym, ◌∙◌, ap, subst, inl, inr, ◌⊎◌, arith, eqb-true}
+use Rattle.std.proofs.Common.{◌≡◌, ℕ, ◌+◌, ◌<◌, ◌==◌, ◌++◌, Bool, true, false, not, cond, List, [], ◌∷◌, filter, refl, sym, ◌∙◌, ap, subst, inl, inr, ◌⊎◌, arith, drop, eqb-true, eq-eqb}
 use Rattle.zs_ids.specs.Graph.{Has}
 use Rattle.zs_queue.specs.Lists.{has-filter}
 use Rattle.zs_scan.specs.declared.batch.Batch.{Batch}
 use Rattle.zs_scan.specs.Kept.{RisesTo}
+use Rattle.zs_scan.specs.Flight.{IsFirst}
 
 module _ {A : Type 0} where
   pub has-left : (xs ys : List A) (x : A) → Has xs x → Has (xs ++ ys) x
@@ -72,3 +73,19 @@ other_number b number ne = go (b.number == number) refl
     go : (x : Bool) → (b.number == number) ≡ x → not x ≡ true
     go true is = absurd (ne (eqb-true b.number number is))
     go false is = refl
+
+-- greater numbers are other numbers: none of these is taken out
+greater_stay : (number : ℕ) (bs : List Batch) → ((c : Batch) → Has bs c → number < c.number) → filter (λ b. not (b.number == number)) bs ≡ bs
+greater_stay number [] above = refl
+greater_stay number (b ∷ bs) above =
+    let less : number < b.number = above b (inl refl) in
+    let stays : not (b.number == number) ≡ true = other_number b number (λ same. omega (arith, less, same)) in
+    rw stays (ap (λ (l : List Batch). b ∷ l) (greater_stay number bs (λ c h. above c (inr h))))
+
+-- where the first of them has the number, the others have other numbers
+pub others_stay : (next : ℕ) (bs : List Batch) (number : ℕ) → RisesTo next bs → IsFirst number bs → drop 1 bs ≡ filter (λ b. not (b.number == number)) bs
+others_stay next [] number rises is = absurd is
+others_stay next (b ∷ bs) number rises is =
+    let same : (b.number == number) ≡ true = eq-eqb b.number number is in
+    let above : (c : Batch) → Has bs c → number < c.number = λ c h. let less : b.number < c.number = rises.1 c h in omega (arith, less, is) in
+    rw same (sym (greater_stay number bs above))

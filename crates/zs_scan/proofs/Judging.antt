@@ -117,30 +117,30 @@ once-append (x ∷ xs) ys ox oy apart = (
 pub verdict_rising : (v : ScanView) (number : ℕ) (entries : List Entry) → IsOrderly v → IsVerdict v number entries → AreRising entries
 verdict_rising v number entries kept verdict = subst (λ (l : List Piece). IsStrictlySortedBy piece_cmp l) (sym (of_pieces (verdict.batch).items entries verdict.of_items)) (kept.rising verdict.batch verdict.here)
 
+-- a piece that flies in the batch has an entry
+pub flying_named : (v : ScanView) (number : ℕ) (entries : List Entry) → IsOrderly v → IsVerdict v number entries → (q : Piece) → flies_in number (mark_of v.marks q) ≡ true → has_entry entries q ≡ true
+flying_named v number entries kept verdict q flew = go (mark_of v.marks q) refl flew
+  where
+    go : (m : Option Mark) → mark_of v.marks q ≡ m → flies_in number m ≡ true → has_entry entries q ≡ true
+    go None is h = cc
+    go (Some None) is h = cc
+    go (Some (Some c)) is h =
+        let f = kept.flies q c is in
+        let here : c ≡ number = eqb-true c number h in
+        let one : f.batch ≡ verdict.batch = one_batch v.batches v.flight f.batch verdict.batch kept.numbers f.here verdict.here (f.named ∙ here ∙ sym verdict.named) in
+        of_any (verdict.batch).items entries q verdict.of_items ∙ subst (λ (b : Batch). has_item b.items q ≡ true) one f.is_item
+
 module _ (v : ScanView) (number : ℕ) (entries checked : List Entry) (marks : List (Piece × Mark)) (flight : List Batch) (room : ℕ) (kept : IsOrderly v) (verdict : IsVerdict v number entries)
     (adds : checked ≡ v.checked ++ still_flying v.marks number entries) (landed : HaveLanded v.marks marks number entries) (out : flight ≡ filter (λ b. not (b.number == number)) v.flight) (enough : length (filter is_flying marks) ≤ room) where
   rising : AreRising entries
   rising = verdict_rising v number entries kept verdict
-
-  -- a piece that flies in the batch has an entry
-  named : (q : Piece) → flies_in number (mark_of v.marks q) ≡ true → has_entry entries q ≡ true
-  named q flew = go (mark_of v.marks q) refl flew
-    where
-      go : (m : Option Mark) → mark_of v.marks q ≡ m → flies_in number m ≡ true → has_entry entries q ≡ true
-      go None is h = cc
-      go (Some None) is h = cc
-      go (Some (Some c)) is h =
-          let f = kept.flies q c is in
-          let here : c ≡ number = eqb-true c number h in
-          let one : f.batch ≡ verdict.batch = one_batch v.batches v.flight f.batch verdict.batch kept.numbers f.here verdict.here (f.named ∙ here ∙ sym verdict.named) in
-          of_any (verdict.batch).items entries q verdict.of_items ∙ subst (λ (b : Batch). has_item b.items q ≡ true) one f.is_item
 
   -- just the marks of the batch are gone
   pub judged_marks : (q : Piece) → mark_of marks q ≡ cond (flies_in number (mark_of v.marks q)) None (mark_of v.marks q)
   judged_marks q = landed q ∙ go (flies_in number (mark_of v.marks q)) refl
     where
       go : (b : Bool) → flies_in number (mark_of v.marks q) ≡ b → cond (has_entry entries q && flies_in number (mark_of v.marks q)) None (mark_of v.marks q) ≡ cond (flies_in number (mark_of v.marks q)) None (mark_of v.marks q)
-      go true flew = ap (λ x. cond (x && flies_in number (mark_of v.marks q)) None (mark_of v.marks q)) (named q flew)
+      go true flew = ap (λ x. cond (x && flies_in number (mark_of v.marks q)) None (mark_of v.marks q)) (flying_named v number entries kept verdict q flew)
       go false stayed = rw stayed (ap (λ x. cond x None (mark_of v.marks q)) (and-false (has_entry entries q)))
 
   was : (p : Piece) (m : Mark) → mark_of marks p ≡ Some m → (flies_in number (mark_of v.marks p) ≡ false) × (mark_of v.marks p ≡ Some m)

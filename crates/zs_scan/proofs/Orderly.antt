@@ -116,6 +116,20 @@ module _ (v : ScanView) (b : Batch) (waiting : List (Piece × Item)) (limit : �
       idle_at q none true has = let there : mark_of v.marks q ≡ Some None = waited q has in let empty : mark_of v.marks q ≡ None = ap (λ (l : List (Piece × Mark)). mark_of l q) none in let no_way : Some None ≡ None = sym there ∙ empty in cc
       idle_at q none false has = rw (has, none) refl
 
+-- where nothing waits and no batch is in flight no piece has a mark
+pub nothing_marked : (v : ScanView) → IsOrderly v → v.waiting ≡ [] → v.flight ≡ [] → v.marks ≡ []
+nothing_marked v kept drained landed = none_marked_at v.marks (λ q. unmarked q (mark_of v.marks q) refl)
+  where
+    unmarked : (q : Piece) (m : Option Mark) → mark_of v.marks q ≡ m → m ≡ None
+    unmarked q None is = refl
+    unmarked q (Some None) is =
+        let waits_here : waits v.waiting q ≡ true = kept.waits q ∙ ap is_waiting is in
+        let none : waits v.waiting q ≡ false = ap (λ (l : List (Piece × Item)). waits l q) drained in
+        let no_way : true ≡ false = sym waits_here ∙ none in cc
+    unmarked q (Some (Some b)) is =
+        let f = kept.flies q b is in
+        absurd (subst (λ (l : List Batch). Has l f.batch) landed f.here)
+
 -- a scan finishes: nothing waits or flies
 pub finished_orderly : (v : ScanView) (run : Phys) → IsOrderly v → v.waiting ≡ [] → v.flight ≡ [] → IsOrderly (record v { run = run })
 finished_orderly v run kept drained landed = record {
@@ -129,19 +143,9 @@ finished_orderly v run kept drained landed = record {
   flies = kept.flies;
   rising = kept.rising;
   numbers = kept.numbers;
-  idle = λ rests. none_marked_at v.marks (λ q. unmarked q (mark_of v.marks q) refl);
+  idle = λ rests. nothing_marked v kept drained landed;
   landing = kept.landing;
 }
-  where
-    unmarked : (q : Piece) (m : Option Mark) → mark_of v.marks q ≡ m → m ≡ None
-    unmarked q None is = refl
-    unmarked q (Some None) is =
-        let waits_here : waits v.waiting q ≡ true = kept.waits q ∙ ap is_waiting is in
-        let none : waits v.waiting q ≡ false = ap (λ (l : List (Piece × Item)). waits l q) drained in
-        let no_way : true ≡ false = sym waits_here ∙ none in cc
-    unmarked q (Some (Some b)) is =
-        let f = kept.flies q b is in
-        absurd (subst (λ (l : List Batch). Has l f.batch) landed f.here)
 
 pub taken_step : (v now : ScanView) (b : Batch) (waiting : List (Piece × Item)) (limit : ℕ) (marks : List (Piece × Mark)) (batches room : ℕ) → v ≡ now → waiting ≡ without v.waiting (pieces_in b.items) → limit ≡ v.limit → batches ≡ v.batches + 1 → HaveFlown v.marks marks b.number b.items
     → Taken now b (record v { waiting = waiting; limit = limit; marks = marks; flight = v.flight ++ b ∷ []; batches = batches; room = room })

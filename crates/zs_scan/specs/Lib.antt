@@ -2,3 +2,5 @@ pub mod View
 pub mod Kept
 pub mod Steps
 pub mod Walks
+pub mod Covered
+pub mod Flight

@@ -40,6 +40,14 @@ item_put v steps.Skip = None
 item_put v (steps.Enter id least) = None
 item_put v (steps.End id) = None
 
+-- a block that a turn meets has a first place
+abbrev pub HasPlace : Step → Type 0
+HasPlace (steps.At k bp) = 0 < length bp.places
+HasPlace steps.Nothing = Unit {0}
+HasPlace steps.Skip = Unit {0}
+HasPlace (steps.Enter id least) = Unit {0}
+HasPlace (steps.End id) = Unit {0}
+
 -- an item may be put: a scan runs, and its piece is in scope and not done
 pub record IsWanted (v : ScanView) (item : Item) : Type 0 where
   pub scans : v.run.status ≡ Scanning
@@ -62,6 +70,7 @@ pub record Walked (g : Graph) (old : ScanView) (turn : Turn) (new : ScanView) : 
   pub step : Step
   pub comes : Comes g old.scope old.run step
   pub named : turn ≡ turn_of step
+  pub placed : HasPlace step
   pub becomes : new.run ≡ advanced g old.scope old.run step
   pub puts : PutIf old (item_put old step) (record new { run = old.run })
 

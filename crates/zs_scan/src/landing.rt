@@ -1,8 +1,10 @@
 //! Taking the verdict of a batch.
 
-ghost use Rattle.std.specs.Prelude.{◌≡◌, ◌≤◌, ◌<◌, ◌+◌, ◌++◌, ◌∷◌, [], ◌&&◌, ◌==◌, not, ℕ, true, false, Some, None, length, filter, if◌then◌else◌};
+ghost use Rattle.std.specs.Prelude.{◌≡◌, ◌↔◌, ◌≤◌, ◌<◌, ◌+◌, ◌++◌, ◌∷◌, [], ◌&&◌, ◌==◌, not, ℕ, IsTrue, true, false, Some, None, length, filter, if◌then◌else◌};
 ghost use Rattle.zs_ids.specs.declared.block.Piece.{Piece};
 ghost use Rattle.zs_scan.specs.View.{is_same, mark_of, flies_in, is_flying};
+ghost use Rattle.zs_scan.specs.Kept.{RisesTo};
+ghost use Rattle.zs_scan.specs.Flight.{IsFirst};
 ghost use Rattle.zs_scan.specs.Steps.{still_flying, AreRising, has_entry};
 
 use crate::batch::Batch;
@@ -53,9 +55,25 @@ pub(crate) fn land_all(
     made
 }
 
-/// Takes the batch of that number out of those in flight. Walks them.
+/// Takes the batch of that number out of those in flight, whose numbers rise: off the front, in one step, where it was
+/// taken first. Else it walks them.
 pub(crate) fn remove_batch(flight: &mut VecDeque<Batch>, number: u64)
+    requires { (next : ℕ) × RisesTo next flight.old.items }
     ensures { flight.new.items ≡ filter (λ b. not (b.number == number)) flight.old.items }
 {
+    if is_first(flight, number) {
+        flight.pop_front();
+        return;
+    }
     flight.retain(|batch| batch.number != number);
+}
+
+/// Whether the first of the batches has that number.
+fn is_first(flight: &VecDeque<Batch>, number: u64) -> bool
+    ensures { IsTrue result ↔ IsFirst number flight.now.items }
+{
+    match flight.front() {
+        Some(batch) => batch.number == number,
+        None => false,
+    }
 }

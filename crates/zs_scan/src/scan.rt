@@ -1,6 +1,8 @@
 //! The scan.
 
 ghost use Rattle.std.specs.Prelude.{◌≡◌, ◌≤◌, ◌<◌, ◌+◌, ◌==◌, ◌↔◌, ◌≢◌, ◌∷◌, [], ℕ, true, false, None, Some, Err, length, filter, OnOk, OnErr, IfOk, is_some, not, IsTrue, if◌then◌else◌};
+ghost use Rattle.zs_ids.specs.Graph.{Graph, IsLive};
+ghost use Rattle.zs_ids.specs.GraphValid.{Room, Valid};
 ghost use Rattle.zs_ids.specs.declared.block.Piece.{Piece};
 ghost use Rattle.zs_phys.specs.Handlers.{idle};
 ghost use Rattle.zs_phys.specs.declared.scope.Kind.TheVariants.{Idle};
@@ -8,6 +10,7 @@ ghost use Rattle.zs_phys.specs.declared.phys.Status.TheVariants.{Scanning};
 ghost use Rattle.zs_queue.specs.Waiting.{lowest, is_of};
 ghost use Rattle.zs_walk.specs.Walking.{runs};
 ghost use Rattle.zs_scan.specs.View.{ScanView, mark_of, is_flying, is_done};
+ghost use Rattle.zs_scan.specs.Covered.{AllAreChecked, AreLive, IsScanOf, Keeps, MayAllBeChecked};
 ghost use Rattle.zs_scan.specs.Kept.{IsOrderly};
 ghost use Rattle.zs_scan.specs.Steps.{blank_scan, is_busy, after_start, scrub_started, Taken, IsVerdict, Judged, Freed, IsComplete, finished, still_flying};
 
@@ -49,9 +52,11 @@ impl Model for Scan {
 }
 
 impl Scan {
-    /// A scan that never ran, over mirrors of that width (1 to 4), for at most `limit` waiting pieces.
+    /// A scan that never ran, over mirrors of that width (1 to 4), for at most `limit` waiting pieces. It may be that of
+    /// any datasets.
     pub fn blank(alloc: Global, width: u8, limit: u32) -> Result<Scan, AllocError>
-        ensures { IfOk result (λ s. s ≡ blank_scan width limit s.room) }
+        ensures blank { IfOk result (λ s. s ≡ blank_scan width limit s.room) }
+        ensures fresh { IfOk result (λ s. (room : Room) (g : Graph) (n h : ℕ) → n ≤ h → Valid room g n → IsScanOf room g n h s) }
     {
         let run = Phys::idle(alloc)?;
         Ok(Scan {
@@ -137,12 +142,15 @@ impl Scan {
 
     /// Starts a scrub of what is born before the transaction group `t`, while these devices are offline, or resumes a
     /// paused one. Nothing is checked then, nothing waits and nothing flies; batches that are in flight stay there.
-    /// Refused as `ScanBusy` exactly where a scan is running that is not a paused scrub. Takes no memory.
+    /// Refused as `ScanBusy` exactly where a scan is running that is not a paused scrub. The scan stays that of the
+    /// datasets, where `t` is not above the group whose tasks come next. Takes no memory.
     pub fn start_scrub(&mut self, t: u64, away: u32) -> Result<(), ScanFault>
         ensures busy { result ≡ Err ScanFault.ScanBusy ↔ IsTrue (is_busy self.old) }
+        ensures full { result ≢ Err ScanFault.Full }
         ensures memory { result ≢ Err ScanFault.Memory }
         ensures ok { OnOk result (self.new ≡ record (after_start t away self.old) { room = self.new.room }) }
         ensures err { OnErr result (self.new ≡ self.old) }
+        ensures keeps { OnOk result ((room : Room) (g : Graph) (n h : ℕ) → t ≤ h → IsScanOf room g n h self.old → IsScanOf room g n h self.new) }
     {
         if self.is_running() {
             return self.resume_scrub();
@@ -190,6 +198,7 @@ impl Scan {
     fn resume_scrub(&mut self) -> Result<(), ScanFault>
         requires { runs self.old.run.status ≡ true }
         ensures busy { result ≡ Err ScanFault.ScanBusy ↔ IsTrue (is_busy self.old) }
+        ensures full { result ≢ Err ScanFault.Full }
         ensures memory { result ≢ Err ScanFault.Memory }
         ensures ok { OnOk result (self.new ≡ record self.old { run = record self.old.run { paused = false } }) }
         ensures err { OnErr result (self.new ≡ self.old) }
@@ -203,12 +212,13 @@ impl Scan {
 
     /// Takes the lowest pieces of a mirror that wait, at most `n` of them, at least 1, into a batch. The batch is empty,
     /// and not in flight, exactly where none waits. Reserves the room of its entries. After want of memory all is as it
-    /// was.
+    /// was. A scan that covers datasets, and whose pieces they have, is such a scan with the batch in flight.
     pub fn take(&mut self, vdev: u8, n: u32, online: u32) -> Result<Batch, ScanFault>
         requires { 1 ≤ n }
         ensures batch { IfOk result (λ b. b ≡ record { number = self.old.batches; vdev = vdev; online = online; items = lowest self.old.waiting vdev n }) }
         ensures taken { IfOk result (λ b. 1 ≤ length b.items → Taken self.old b self.new) }
         ensures none { IfOk result (λ b. length b.items ≡ 0 → self.new ≡ record self.old { room = self.new.room }) }
+        ensures keeps { OnOk result (Keeps self.old self.new) }
         ensures memory { OnErr result (result ≡ Err ScanFault.Memory) }
         ensures err { OnErr result (self.new ≡ record self.old { room = self.new.room }) }
     {
@@ -253,33 +263,41 @@ impl Scan {
     }
 
     /// Takes the verdict of a batch in flight: an entry for each of its items, in order. Puts those into the ledger
-    /// whose piece still flies in it, and answers how many these are; the batch is no longer in flight. Takes no memory.
+    /// whose piece still flies in it, each of a live block in scope that had none, and answers how many these are. The
+    /// batch is no longer in flight; the scan stays that of the datasets. Takes no memory. Reads no other batch where this
+    /// one was taken first.
     pub fn verdict(&mut self, number: u64, entries: &[Entry]) -> usize
         requires { IsVerdict self.old number entries.now }
         ensures made { result ≡ length (still_flying self.old.marks number entries.now) }
         ensures judged { Judged self.old number entries.now self.new }
+        ensures keeps { Keeps self.old self.new }
+        ensures made_of { (g : Graph) → AreLive g self.old → MayAllBeChecked g self.old.scope self.old.checked (still_flying self.old.marks number entries.now) }
     {
         let made = land_all(&mut self.marks, &mut self.ledger, number, entries);
         remove_batch(&mut self.flight, number);
         made
     }
 
-    /// A piece was freed: it no longer waits, or if it flies it gets no entry. Answers whether it waited or flew. Takes
-    /// no memory.
+    /// A piece was freed: it no longer waits, or if it flies it gets no entry. Answers whether it waited or flew. The scan
+    /// stays that of the datasets, where they no longer have the piece. Takes no memory.
     pub fn freed(&mut self, piece: Piece) -> bool
         ensures was { result ≡ is_some (mark_of self.old.marks piece) }
         ensures freed { Freed self.old piece self.new }
+        ensures keeps { (room : Room) (g : Graph) (n h : ℕ) → (IsLive g piece → ⊥) → IsScanOf room g n h self.old → IsScanOf room g n h self.new }
     {
         let mark = self.marks.remove(piece);
         self.queue.drop_piece(piece);
         mark.is_some()
     }
 
-    /// Finishes the scan, and answers whether it did: exactly where it is complete. Takes no memory.
+    /// Finishes the scan, and answers whether it did: exactly where it is complete. Each live piece in scope is checked
+    /// then, and the scan stays that of the datasets. Takes no memory.
     pub fn finish(&mut self) -> bool
         ensures complete { IsTrue result ↔ IsComplete self.old }
         ensures done { result ≡ true → self.new ≡ finished self.old }
         ensures rest { result ≡ false → self.new ≡ self.old }
+        ensures keeps { Keeps self.old self.new }
+        ensures all { result ≡ true → (room : Room) (g : Graph) (n h : ℕ) → IsScanOf room g n h self.old → AllAreChecked g self.old.scope self.old.checked }
     {
         if self.run.status != Status::Scanning || self.run.paused || self.run.at != At::Nowhere {
             return false;

@@ -237,3 +237,123 @@ fn walks_over_what_it_puts(rt: HostRuntime) -> Result<(), Fail> {
     }
     Ok(())
 }
+
+/// A scrub of a head with one record, of which two pieces wait.
+#[tactic(auto, using(zs_walk::proofs::Examples::head_walks))]
+fn two_wait(alloc: Global) -> Option<Scan> {
+    let Ok(head) = blocks(alloc) else {
+        return None;
+    };
+    let graph = OneHead { head };
+    let Ok(scan) = scrub(alloc) else {
+        return None;
+    };
+    let mut scan = scan;
+    let turns = [Turn::Enter, Turn::End, Turn::Enter, Turn::At, Turn::At];
+    if is_walk(&mut scan, &graph, &turns) {
+        Some(scan)
+    } else {
+        None
+    }
+}
+
+/// Takes the lowest piece that waits, and answers its item and the number of its batch.
+fn take_one(scan: &mut Scan) -> Option<(Item, u64)> {
+    let Ok(batch) = scan.take(0, 1, 3) else {
+        return None;
+    };
+    let [item] = batch.items.as_slice() else {
+        return None;
+    };
+    Some((*item, batch.number))
+}
+
+/// Takes two batches, and answers whether the one taken first is the first in flight, and none was before.
+fn has_first(scan: &mut Scan) -> bool {
+    if scan.first_in_flight().is_some() {
+        return false;
+    }
+    let Some((_, first)) = take_one(scan) else {
+        return false;
+    };
+    let Some((_, second)) = take_one(scan) else {
+        return false;
+    };
+    match scan.first_in_flight() {
+        Some(batch) => batch.number == first && first != second,
+        None => false,
+    }
+}
+
+#[test]
+fn the_batch_taken_first_is_the_first_in_flight(rt: HostRuntime) -> Result<(), Fail> {
+    match two_wait(rt.alloc()) {
+        Some(scan) => {
+            let mut scan = scan;
+            assert!(rt; has_first(&mut scan));
+        }
+        None => assert!(rt; false),
+    }
+    Ok(())
+}
+
+/// Takes a batch, and answers whether just the entry of its item, with its number, is a verdict.
+fn knows_verdict(scan: &mut Scan) -> bool {
+    let Some((item, number)) = take_one(scan) else {
+        return false;
+    };
+    let entry = entry_of(&item);
+    let mut other = entry;
+    other.sectors = 3;
+    scan.is_verdict(number, &[entry])
+        && !scan.is_verdict(u64::MAX, &[entry])
+        && !scan.is_verdict(number, &[other])
+        && !scan.is_verdict(number, &[])
+        && !scan.is_verdict(number, &[entry, entry])
+}
+
+#[test]
+fn a_verdict_has_the_number_and_the_items_of_a_batch(rt: HostRuntime) -> Result<(), Fail> {
+    match two_wait(rt.alloc()) {
+        Some(scan) => {
+            let mut scan = scan;
+            assert!(rt; knows_verdict(&mut scan));
+        }
+        None => assert!(rt; false),
+    }
+    Ok(())
+}
+
+/// How many entries a verdict would make.
+fn count_made(scan: &Scan, alloc: Global, number: u64, entries: &[Entry]) -> Option<usize> {
+    match scan.entries_made(alloc, number, entries) {
+        Ok(made) => Some(made.len()),
+        Err(_) => None,
+    }
+}
+
+/// Takes a batch, frees its piece, and answers whether it made an entry just until then.
+fn makes_until_freed(scan: &mut Scan, alloc: Global) -> bool {
+    let Some((item, number)) = take_one(scan) else {
+        return false;
+    };
+    let entries = [entry_of(&item)];
+    if count_made(scan, alloc, number, &entries) != Some(1)
+        || count_made(scan, alloc, u64::MAX, &entries) != Some(0)
+    {
+        return false;
+    }
+    scan.freed(item.piece) && count_made(scan, alloc, number, &entries) == Some(0)
+}
+
+#[test]
+fn a_freed_piece_has_no_entry_made(rt: HostRuntime) -> Result<(), Fail> {
+    match two_wait(rt.alloc()) {
+        Some(scan) => {
+            let mut scan = scan;
+            assert!(rt; makes_until_freed(&mut scan, rt.alloc()));
+        }
+        None => assert!(rt; false),
+    }
+    Ok(())
+}

@@ -1,9 +1,11 @@
 //! The turns of the walk, with what they put into the queue.
 
-ghost use Rattle.std.specs.Prelude.{◌≡◌, ◌<◌, ◌≤◌, true, false, length, OnOk, OnErr, IfOk, IsErrOf, IfSome, is_some};
+ghost use Rattle.std.specs.Prelude.{◌≡◌, ◌<◌, ◌≤◌, ℕ, true, false, length, OnOk, OnErr, IfOk, IsErrOf, IfSome, is_some};
+ghost use Rattle.zs_ids.specs.GraphValid.{Room};
 ghost use Rattle.zs_queue.specs.Waiting.{waits, with_item};
 ghost use Rattle.zs_walk.specs.Walking.{MayWalk};
-ghost use Rattle.zs_scan.specs.Walks.{Walked, IsWanted, Put, PutIf, IsFull, turn_of, item_of, item_put};
+ghost use Rattle.zs_scan.specs.Covered.{IsScanOf};
+ghost use Rattle.zs_scan.specs.Walks.{Walked, IsWanted, Put, PutIf, IsFull, HasPlace, turn_of, item_of, item_put};
 
 use crate::batch::{ScanFault, Turn};
 use crate::scan::Scan;
@@ -13,9 +15,10 @@ use zs_phys::Step;
 use zs_queue::{PlainQueue, Waiting};
 use zs_walk::{Datasets, advance, visit};
 
-/// The item at the first place of a block.
+/// The item at the first place of a block, which has one.
 pub fn item_of(bp: &Bp) -> Item
-    ensures { result ≡ item_of bp.now }
+    ensures item { result ≡ item_of bp.now }
+    ensures place { 0 < length bp.now.places }
 {
     Item {
         piece: Piece {
@@ -43,12 +46,14 @@ fn turn_of(step: &Step) -> Turn
 impl Scan {
     /// Makes the next turn of the walk over the datasets, and answers what it was. Refused as `Full` exactly where the
     /// turn would put a piece and as many wait as the limit allows; nothing has changed then, nor after want of memory.
+    /// A scan that covers the datasets, and whose pieces they have, is such a scan after the turn.
     pub fn walk_step<G: Datasets>(&mut self, graph: &G) -> Result<Turn, ScanFault>
         requires { MayWalk (G.datasets graph.now) self.old.scope self.old.run }
         ensures turn { IfOk result (λ turn. Walked (G.datasets graph.now) self.old turn self.new) }
         ensures goes_on { IfOk result (λ turn. MayWalk (G.datasets graph.now) self.new.scope self.new.run) }
         ensures full { IsErrOf result ScanFault.Full → IsFull (G.datasets graph.now) self.old }
         ensures busy { IsErrOf result ScanFault.ScanBusy → ⊥ }
+        ensures keeps { OnOk result ((room : Room) (n h : ℕ) → IsScanOf room (G.datasets graph.now) n h self.old → IsScanOf room (G.datasets graph.now) n h self.new) }
         ensures err { OnErr result (self.new ≡ self.old) }
     {
         let step = visit(graph, &self.scope, &self.run);
@@ -58,9 +63,10 @@ impl Scan {
         Ok(turn_of(&step))
     }
 
-    /// The item that a turn puts into the queue.
+    /// The item that a turn puts into the queue. A block that it meets has a first place.
     fn item_put(&self, step: &Step) -> Option<Item>
-        ensures { result ≡ item_put self.now step.now }
+        ensures item { result ≡ item_put self.now step.now }
+        ensures place { HasPlace step.now }
     {
         let Step::At(_, bp) = step else {
             return None;

@@ -1,4 +1,5 @@
 use Rattle.std.proofs.Common.{arith}
+use Rattle.zs_scan.proofs.Freeings.{freed_keeps}
 use Rattle.zs_scan.proofs.Orderly.{freed_orderly, freed_step}
 use Rattle.zs_scan.proofs.scan.Scan.freed.Goals as goal
 
@@ -8,3 +9,6 @@ invariant_of-self c =
 
 pub returns-clause-freed : goal.returns-clause-freed
 returns-clause-freed c = freed_step _ _ c.args.piece _ _ _ c.self.view_is c.drop_piece.ensures.items c.drop_piece.ensures.limit c.remove-mark.ensures.mark
+
+pub returns-clause-keeps : goal.returns-clause-keeps
+returns-clause-keeps c = freed_keeps _ _ c.args.piece (returns-clause-freed c)

@@ -1,4 +1,4 @@
-use Rattle.std.proofs.Common.{◌≡◌, ◌≤◌, ◌∙◌, ◌++◌, [], ◌∷◌, List, length, arith, true, refl, subst, sym, ap}
+use Rattle.std.proofs.Common.{rules, ◌≡◌, ◌≤◌, ◌∙◌, ◌++◌, [], ◌∷◌, List, length, arith, true, refl, subst, sym, ap}
 use Rattle.std.specs.Prelude.{Some, None}
 use Rattle.std.specs.List.Sorted.{IsStrictlySortedBy}
 use Rattle.zs_ids.specs.declared.block.Piece.{Piece}
@@ -9,6 +9,7 @@ use Rattle.zs_scan.specs.View.{mark_of, has_item, pieces_in}
 use Rattle.zs_queue.specs.Waiting.{without}
 use Rattle.zs_scan.specs.declared.batch.Batch.{Batch}
 use Rattle.zs_scan.proofs.Orderly.{items_wait, lowest_few, taken_is}
+use Rattle.zs_scan.proofs.Takes.{taken_from}
 use Rattle.zs_scan.proofs.scan.Scan.take.Goals as goal
 
 pub fly_all-requires-clause-wait : goal.fly_all-requires-clause-wait
@@ -44,3 +45,8 @@ invariant_of-self-2 c =
     (c.in_ok-items.ensures.rest ∙ ap (λ (l : List Item). without c.self.inside.queue.map.entries (pieces_in l)) (sym c.deref.ensures.value)) c.fly_all.ensures.marks
     (c.push_batch.ensures ∙ ap (λ (l : List Batch). l ++ record { number = c.self.inside.batches; vdev = c.args.vdev; online = c.args.online; items = c.from_vec.result } ∷ []) c.reserve-2.ensures.items) refl
     (omega (arith, same, asked, there, c.count.ensures, c.min-most.ensures, c.in_ok-reserve-3.ensures.ok, c.fly_all.ensures.flying, c.flying-flying.ensures))
+
+pub returns-clause-keeps : goal.returns-clause-keeps
+returns-clause-keeps c =
+    let is : c.from_vec.result ≡ lowest c.self.inside.queue.map.entries c.args.vdev c.args.n = c.from_vec.ensures ∙ c.filled-copy.ensures ∙ c.deref-2.ensures.value ∙ c.in_ok-items.ensures.batch in
+    taken_from _ _ _ (record { number = c.self.inside.batches; vdev = c.args.vdev; online = c.args.online; items = c.from_vec.result }) c.args.vdev c.args.n c.self.view_is c.self.invariant refl is (search rules)

@@ -1,0 +1,57 @@
+-- What ties a scan to the datasets that it walks: it covers them, and what waits or flies is live.
+use Rattle.std.specs.Prelude.{◌≡◌, ℕ, ◌≤◌, ◌++◌, true, false, List, [], ◌∷◌, Some}
+use Rattle.zs_ids.specs.declared.key.Key.{Key}
+use Rattle.zs_ids.specs.declared.block.Bp.{Bp}
+use Rattle.zs_ids.specs.declared.block.Piece.{Piece}
+use Rattle.zs_ids.specs.declared.block.Item.{Item}
+use Rattle.zs_ids.specs.Graph.{Dataset, Graph, Has, IsLive, pieces_of}
+use Rattle.zs_ids.specs.GraphValid.{Room}
+use Rattle.zs_ledger.specs.declared.entry.Entry.{Entry}
+use Rattle.zs_ledger.specs.Kept.{has_piece}
+use Rattle.zs_phys.specs.declared.scope.Scope.{Scope}
+use Rattle.zs_phys.specs.Scope.{in_scope}
+use Rattle.zs_cover.specs.Laws.{IsCovered}
+use Rattle.zs_scan.specs.declared.batch.Batch.{Batch}
+use Rattle.zs_scan.specs.View.{ScanView, mark_of, is_done}
+
+-- some dataset has a block of this piece, with this size and sum
+pub record IsOfBlock (g : Graph) (piece : Piece) (sectors : ℕ) (sum : List ℕ) : Type 0 where
+  pub holder : Dataset
+  pub is_dataset : Has g holder
+  pub at : Key × Bp
+  pub is_entry : Has holder.entries at
+  pub is_piece : Has (pieces_of at.1) piece
+  pub size : sectors ≡ at.1.sectors
+  pub same_sum : sum ≡ at.1.sum
+
+-- the pieces that wait and those that fly are live, and their items have the size and sum of the piece's pointer
+pub record AreLive (g : Graph) (v : ScanView) : Type 0 where
+  pub waiting : (e : Piece × Item) → Has v.waiting e → IsOfBlock g e.1.piece e.1.sectors e.1.sum
+  pub flying : (b : Batch) (i : Item) → Has v.flight b → Has b.items i → mark_of v.marks i.piece ≡ Some (Some b.number) → IsOfBlock g i.piece i.sectors i.sum
+
+-- the scan belongs to the datasets, whose blocks are born by n and which lie in the room, where the tasks of the
+-- transaction group h come next: its state is sound and covers them, with what is checked, waits or flies as done; its
+-- scope ends by h; and what waits or flies is live
+pub record IsScanOf (room : Room) (g : Graph) (n h : ℕ) (v : ScanView) : Type 0 where
+  pub covered : IsCovered room g n h v.scope v.run (is_done v)
+  pub range : v.scope.max ≤ h
+  pub live : AreLive g v
+
+-- a call keeps the scan the datasets' own
+abbrev pub Keeps : ScanView → ScanView → Type 0
+Keeps old new = (room : Room) (g : Graph) (n h : ℕ) → IsScanOf room g n h old → IsScanOf room g n h new
+
+-- an entry may be added to those that are checked: it is of a live block in scope that has none
+pub record MayBeChecked (g : Graph) (scope : Scope) (checked : List Entry) (e : Entry) : Type 0 where
+  pub block : IsOfBlock g e.piece e.sectors e.sum
+  pub wanted : in_scope scope e.piece ≡ true
+  pub unchecked : has_piece checked e.piece ≡ false
+
+-- the entries may be added one after another
+abbrev pub MayAllBeChecked : Graph → Scope → List Entry → List Entry → Type 0
+MayAllBeChecked g scope checked [] = Unit {0}
+MayAllBeChecked g scope checked (e ∷ es) = MayBeChecked g scope checked e × MayAllBeChecked g scope (checked ++ e ∷ []) es
+
+-- every live piece in the scope is checked
+abbrev pub AllAreChecked : Graph → Scope → List Entry → Type 0
+AllAreChecked g scope checked = (p : Piece) → IsLive g p → in_scope scope p ≡ true → has_piece checked p ≡ true
