@@ -42,7 +42,7 @@ origin_blocks n = record {
 }
 
 -- nothing is held where there is just the origin
-none_held : (d : Dataset) (e : Key × Bp) → Has blank d → Has d.entries e → ⊥
+pub none_held : (d : Dataset) (e : Key × Bp) → Has blank d → Has d.entries e → ⊥
 none_held d e (inl is) h = subst (λ (x : Dataset). Has x.entries e) (sym is) h
 none_held d e (inr none) h = absurd none
 

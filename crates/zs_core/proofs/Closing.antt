@@ -1,5 +1,5 @@
 -- A transaction group is closed: its pointers are made, and nothing is staged in the next one.
-use Rattle.std.specs.Prelude.{◌≡◌, ℕ, ◌+◌, List, [], ◌∷◌, Option, Some, None, refl}
+use Rattle.std.specs.Prelude.{◌≡◌, ℕ, ◌+◌, List, [], Option, Some, None, refl}
 use Rattle.std.proofs.Common.{◌∙◌, ap}
 use Rattle.zs_ids.specs.declared.key.Key.{Key}
 use Rattle.zs_ids.specs.declared.block.Bp.{Bp}
@@ -11,12 +11,11 @@ use Rattle.zs_core.specs.declared.event.Stage.TheVariants.{Between}
 use Rattle.zs_core.specs.declared.parts.Head.{Head}
 use Rattle.zs_core.specs.declared.parts.Closed.{Closed}
 use Rattle.zs_core.specs.View.{AreHeadsBlocks}
-use Rattle.zs_core.specs.Kept.{IsForHead, IsAtStage, AreChangesOf}
-
--- nothing is staged for any dataset
-pub none_staged : (head : Option Head) (staged : List (Slot × Staging)) → IsForHead head staged → IsForHead head []
-none_staged None staged for_head = refl
-none_staged (Some h) staged for_head = (tt, for_head.1)
+use Rattle.zs_core.specs.Kept.{IsAtStage, AreChangesOf, IsHeadKept}
+use Rattle.zs_core.specs.Placed.{AreStaged}
+use Rattle.zs_core.proofs.Placing.{now_closed}
+use Rattle.zs_ids.specs.declared.dataset.DsId.{DsId}
+use Rattle.std.specs.List.Sorted.{IsStrictlySortedBy}
 
 -- between two syncs the open transaction group is the one after the last applied
 pub between_txg : (head : Option Head) (applied open_txg : ℕ) (closed : Option Closed) → IsAtStage head applied open_txg closed Between → open_txg ≡ applied + 1
@@ -32,3 +31,21 @@ changes_of (Some h) o blocks changes are is = record { blocks = blocks; made = a
 pub none_closed : (head : Option Head) (applied open_txg : ℕ) (closed : Option Closed) → IsAtStage head applied open_txg closed Between → closed ≡ None
 none_closed head applied open_txg None at = refl
 none_closed head applied open_txg (Some c) at = absurd at
+
+-- nothing that is staged is formed
+pub none_staged : (size : ℕ → ℕ) (id : DsId) → AreStaged size id []
+unfolding IsStrictlySortedBy
+none_staged size id = record { in_order = tt; for_head = λ e h. absurd h; formed = λ e h. absurd h; parents = λ e h. absurd h }
+
+-- what is staged for the head is closed, and nothing is staged in the next transaction group
+pub closes_head : (head : Option Head) (applied start next end : ℕ) (closed staged : List (Slot × Staging)) → IsHeadKept head applied start next end closed staged → IsHeadKept head applied start next end staged []
+closes_head None applied start next end closed staged k = (k.1, refl)
+closes_head (Some h) applied start next end closed staged k = record {
+  numbered = k.numbered;
+  since = k.since;
+  size = k.size;
+  formed = k.formed;
+  earlier = k.later;
+  later = none_staged k.size h.id;
+  placed = now_closed start next end h.map.map.entries staged (k.placed).later;
+}

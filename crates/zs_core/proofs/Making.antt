@@ -16,8 +16,8 @@ use Rattle.zs_txg.specs.declared.staged.Staging.{Staging}
 use Rattle.zs_txg.specs.Txg.{Slot, slot_cmp, staged_at, put_staged}
 use Rattle.zs_txg.proofs.Entries.{lookup-insert_entry}
 use Rattle.zs_txg.proofs.Slots.{slot_total, same_slot, key_total}
-use Rattle.zs_core.specs.Steps.{staged_once, IsStagedWith}
-use Rattle.zs_core.specs.Placed.{IsFormed, resized, AreFormed, AreStaged, AreBothPlaced, sector_at, next_after, with_root, after_root, with_above, after_above, staged_with}
+use Rattle.zs_core.specs.Steps.{staged_once, IsStagedWith, KeepsPlace}
+use Rattle.zs_core.specs.Placed.{IsFormed, resized, AreFormed, AreStaged, AreBothPlaced, sector_at, next_after, with_root, after_root, with_above, after_above, staged_with, staged_again, place_or}
 use Rattle.zs_core.specs.Placed.IsFormed.{root, dnodes, leaf}
 use Rattle.zs_core.proofs.Inserting.{at_some, at_none}
 use Rattle.zs_core.proofs.Applying.{same_key}
@@ -100,8 +100,8 @@ module _ (size : ℕ → ℕ) (id : DsId) (start next end : ℕ) (entries : List
       (staged_put size id (with_above staged id object next) now.0 (record_key object 0) what (leaf object first last refl is) above, both_next size id (with_above staged id object next) now.0 (record_key object 0) what start (after_above staged id object next) end entries closed now.1 refl fits)
 
 -- a block that is staged is staged again at its place, with another fill
-pub staged_again : (size : ℕ → ℕ) (id : DsId) (start next end : ℕ) (entries : List (Key × Bp)) (closed staged : List (Slot × Staging)) (key : Key) (old : Staging) (fill : Option ℕ) → AreReady size id start next end entries closed staged → staged_at staged (id, key) ≡ Some old → AreReady size id start next end entries closed (put_staged staged (id, key) (record { place = old.place; sectors = old.sectors; fill = fill }))
-staged_again size id start next end entries closed staged key old fill ready found =
+pub again_staged : (size : ℕ → ℕ) (id : DsId) (start next end : ℕ) (entries : List (Key × Bp)) (closed staged : List (Slot × Staging)) (key : Key) (old : Staging) (fill : Option ℕ) → AreReady size id start next end entries closed staged → staged_at staged (id, key) ≡ Some old → AreReady size id start next end entries closed (put_staged staged (id, key) (record { place = old.place; sectors = old.sectors; fill = fill }))
+again_staged size id start next end entries closed staged key old fill ready found =
     let was : Has staged ((id, key), old) = at_some slot_cmp slot_total same_slot staged (id, key) old found in
     let what : Staging = record { place = old.place; sectors = old.sectors; fill = fill } in
     (staged_put size id staged ready.0 key what (ready.0.formed ((id, key), old) was) (λ k up. ready.0.parents ((id, key), old) was k up), both_again size id staged ready.0 key what start next end entries closed ready.1 old found refl refl)
@@ -158,10 +158,6 @@ pub make_staged : (size : ℕ → ℕ) (id : DsId) (start next end : ℕ) (entri
 make_staged size id start next end entries closed staged object sectors fill first last none fits ready =
     write_staged (resized size object sectors) id start next end entries closed staged object last (resized_staged size object sectors id staged none ready.0, ready.1) sectors fill first (size_set size object sectors) fits
 
--- it is a step of the machine
-pub is_make : (staged : List (Slot × Staging)) (id : DsId) (object sectors fill next : ℕ) → IsStagedWith staged id object sectors fill (staged_with staged id object sectors (Some fill) next)
-is_make staged id object sectors fill next = (sector_at next, sector_at (after_root staged id next), sector_at (after_above staged id object next), refl)
-
 -- staging the root changes nothing at another slot
 other_once : (staged : List (Slot × Staging)) (slot at : Slot) (place : Place) → at ≢ slot → staged_at (staged_once staged slot place) at ≡ staged_at staged at
 other_once staged slot at place other = by (is_some (staged_at staged slot))
@@ -172,6 +168,20 @@ other_once staged slot at place other = by (is_some (staged_at staged slot))
     by : (b : Bool) → staged_at (if b then staged else put_staged staged slot (record { place = place; sectors = 8; fill = None })) at ≡ staged_at staged at
     by true = refl
     by false = lookup-insert_entry slot_total slot (record { place = place; sectors = 8; fill = None }) at staged ∙ ap (λ (b : Bool). cond b (Some (record { place = place; sectors = 8; fill = None })) (staged_at staged at)) apart
+
+-- the record of an object is staged at a slot of its own
+pub other_above : (staged : List (Slot × Staging)) (id : DsId) (object next : ℕ) → staged_at (with_above staged id object next) (id, record_key object 0) ≡ staged_at staged (id, record_key object 0)
+other_above staged id object next =
+    other_once (with_root staged id next) (id, dnode_key object) (id, record_key object 0) (sector_at (after_root staged id next)) (λ is. let depth : 3 ≡ 1 = ap (λ (s : Slot). s.1.depth) is in omega (arith, depth))
+    ∙ other_once staged (id, root_key) (id, record_key object 0) (sector_at next) (λ is. let depth : 3 ≡ 0 = ap (λ (s : Slot). s.1.depth) is in omega (arith, depth))
+
+keeps : (f g : Option Staging) (place : Place) → g ≡ f → KeepsPlace f (place_or g place)
+keeps None g place is = tt
+keeps (Some e) g place is = ap (λ (x : Option Staging). place_or x place) is
+
+-- it is a step of the machine
+pub is_staged : (staged : List (Slot × Staging)) (id : DsId) (object sectors fill next : ℕ) → IsStagedWith staged id object sectors fill (staged_again staged id object sectors (Some fill) next)
+is_staged staged id object sectors fill next = (sector_at next, sector_at (after_root staged id next), place_or (staged_at (with_above staged id object next) (id, record_key object 0)) (sector_at (after_above staged id object next)), keeps _ _ _ (other_above staged id object next), refl)
 
 -- the next sector after a record is that many sectors on as it needs with the blocks above it that were not staged
 pub needed_is : (staged : List (Slot × Staging)) (id : DsId) (object sectors next : ℕ) → after_above staged id object next + sectors ≡ next + ((if is_some (staged_at staged (id, root_key)) then 0 else 8) + (if is_some (staged_at staged (id, dnode_key object)) then 0 else 8) + sectors)

@@ -1,6 +1,6 @@
 -- A read that is not refused finds the head, and is open with its plan.
-use Rattle.std.specs.Prelude.{◌≡◌, ℕ, Bool, true, false, List, [], ◌∷◌, ◌++◌, Option, Some, None, refl}
-use Rattle.std.proofs.Common.{sym, ◌∙◌, ap, subst}
+use Rattle.std.specs.Prelude.{◌≡◌, ℕ, Bool, true, false, List, [], ◌∷◌, ◌++◌, Some, None, refl}
+use Rattle.std.proofs.Common.{ap}
 use Rattle.zs_ids.specs.declared.dataset.DsName.{DsName}
 use Rattle.zs_script.specs.declared.reply.Reply.TheVariants as reply
 use Rattle.zs_core.specs.declared.event.ReadPlan.{ReadPlan}

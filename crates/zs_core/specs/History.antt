@@ -6,6 +6,7 @@ use Rattle.zs_core.specs.declared.event.Step.{Step}
 use Rattle.zs_core.specs.declared.event.Step.TheVariants as step
 use Rattle.zs_core.specs.Machine.{PoolState}
 use Rattle.zs_core.specs.Steps.{Begins, Steps}
+use Rattle.zs_core.specs.Told.{AreTold}
 
 -- a pool's state and the part of it that is committed
 pub record Full : Type 0 where
@@ -26,7 +27,8 @@ abbrev pub Run : Full → List Event → Full → Type 0
 Run s [] t = t ≡ s
 Run s (e ∷ es) t = (m : Full) × FullSteps s e m × Run m es t
 
--- a history that begins with the making of a pool and leads to the state
+-- a history that begins with the making of a pool and leads to the state, in which each line's reply tells of the
+-- events before it
 pub record IsHistory (es : List Event) (now : PoolState) : Type 0 where
   pub first : Event
   pub others : List Event
@@ -35,6 +37,7 @@ pub record IsHistory (es : List Event) (now : PoolState) : Type 0 where
   pub begins : Begins first start
   pub kept : PoolState
   pub run : Run (record { now = start; kept = start }) others (record { now = now; kept = kept })
+  pub told : AreTold [] es
 
 -- the text of a history: those of its replies, one after another
 abbrev pub text_of : List Event → List ℕ

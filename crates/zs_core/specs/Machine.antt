@@ -1,9 +1,10 @@
 -- The state of the abstract machine. It has the graph, the staged records and tasks, and of the scan only its
 -- range and the list of what was checked: no bookmark, no queue, no places in waiting.
-use Rattle.std.specs.Prelude.{ℕ, ◌==◌, ◌&&◌, ◌||◌, not, nat_lt, Bool, true, false, List, find, Option, Some, None, is_some}
+use Rattle.std.specs.Prelude.{ℕ, ◌==◌, ◌&&◌, ◌||◌, not, Bool, List, find, Option, Some, None, is_some}
 use Rattle.std.specs.Cmp.Lexicographic.{pointwise}
 use Rattle.std.specs.Option.{option_or}
 use Rattle.zs_ids.specs.declared.key.Key.{Key}
+use Rattle.zs_ids.specs.declared.block.Bp.{Bp}
 use Rattle.zs_ids.specs.declared.dataset.DsId.{DsId}
 use Rattle.zs_ids.specs.declared.dataset.DsName.{DsName}
 use Rattle.zs_ids.specs.declared.dataset.Name.{Name}
@@ -14,9 +15,10 @@ use Rattle.zs_txg.specs.declared.task.Task.{Task}
 use Rattle.zs_txg.specs.declared.staged.Staging.{Staging}
 use Rattle.zs_txg.specs.Txg.{Slot, staged_at}
 use Rattle.zs_ledger.specs.declared.entry.Entry.{Entry}
-use Rattle.zs_phys.specs.declared.scope.Kind.{Kind}
+use Rattle.zs_phys.specs.declared.scope.Scope.{Scope}
 use Rattle.zs_phys.specs.declared.phys.Status.{Status}
-use Rattle.zs_phys.specs.declared.phys.Status.TheVariants.{Never, Scanning, Finished, Canceled}
+use Rattle.zs_walk.specs.Walking.{runs}
+use Rattle.zs_scan.specs.Steps.{is_scrub}
 use Rattle.zs_script.specs.declared.refusal.Refusal.{Refusal}
 use Rattle.zs_core.specs.declared.event.Stage.{Stage}
 use Rattle.zs_core.specs.declared.parts.OpenRead.{OpenRead}
@@ -28,13 +30,11 @@ pub record Txg : Type 0 where
   pub staged : List (Slot × Staging)
   pub tasks : List (ℕ × Task)
 
--- a scan: its range of births, what it has checked, in order, and how many of these entries are saved
+-- a scan: what it examines, what it has checked, in order, and how many of these entries are saved
 pub record ScanState : Type 0 where
-  pub kind : Kind
+  pub scope : Scope
   pub status : Status
   pub paused : Bool
-  pub min : ℕ
-  pub max : ℕ
   pub checked : List Entry
   pub saved : ℕ
 
@@ -85,21 +85,28 @@ closed_at (Some txg) slot = staged_at txg.staged slot
 abbrev pub staged_record : PoolState → DsId → Key → Option Staging
 staged_record s ds key = option_or (staged_at s.open_txg.staged (ds, key)) (closed_at s.closed (ds, key))
 
+-- how many sectors a record has that is staged, or else mapped
+abbrev pub sectors_from : Option Staging → Option Bp → ℕ
+sectors_from (Some e) bp = e.sectors
+sectors_from None (Some bp) = bp.sectors
+sectors_from None None = 0
+
+-- how many sectors each record of an object of the dataset has
+abbrev pub record_sectors : PoolState → Dataset → ℕ → ℕ
+record_sectors s d object = sectors_from (staged_record s d.id (record_key object 0)) (bp_at d.entries (record_key object 0))
+
 -- the dataset has the object: its record 0 is mapped or staged
 abbrev pub has_object : PoolState → Dataset → ℕ → Bool
 has_object s d object = is_some (staged_record s d.id (record_key object 0)) || is_some (bp_at d.entries (record_key object 0))
 
--- the status of a scan that is running, paused or not
-abbrev pub is_scanning_status : Status → Bool
-is_scanning_status Scanning = true
-is_scanning_status Never = false
-is_scanning_status Finished = false
-is_scanning_status Canceled = false
-
--- a scan is running
+-- a scan is running, paused or not
 abbrev pub is_running : ScanState → Bool
-is_running scan = is_scanning_status scan.status
+is_running scan = runs scan.status
 
--- a piece born at that time is in the scan's scope
-abbrev pub is_born_in_scope : ScanState → ℕ → Bool
-is_born_in_scope scan birth = nat_lt scan.min birth && nat_lt birth scan.max
+-- a scan is running that is not a paused scrub
+abbrev pub is_busy : ScanState → Bool
+is_busy scan = is_running scan && not (scan.paused && is_scrub scan.scope.kind)
+
+-- a scan is running that is not paused
+abbrev pub is_at_work : ScanState → Bool
+is_at_work scan = is_running scan && not scan.paused

@@ -1,6 +1,6 @@
 -- The head of a pool in which an object has one record: how its blocks are formed, what may be staged for it, and where
 -- all of these lie.
-use Rattle.std.specs.Prelude.{◌≡◌, ◌<◌, ◌≤◌, ◌+◌, ◌==◌, ℕ, true, is_some, if◌then◌else◌, List, [], ◌∷◌, Option, Some}
+use Rattle.std.specs.Prelude.{◌≡◌, ◌<◌, ◌≤◌, ◌+◌, ◌==◌, ℕ, true, is_some, if◌then◌else◌, List, [], ◌∷◌, Option, Some, None}
 use Rattle.zs_ids.specs.declared.key.Key.{Key}
 use Rattle.zs_ids.specs.declared.block.Bp.{Bp}
 use Rattle.zs_ids.specs.declared.block.Piece.{Piece}
@@ -127,3 +127,14 @@ after_above staged id object next = next_after (with_root staged id next) (id, d
 abbrev pub staged_with : List (Slot × Staging) → DsId → ℕ → ℕ → Option ℕ → ℕ → List (Slot × Staging)
 staged_with staged id object sectors fill next =
     put_staged (with_above staged id object next) (id, record_key object 0) (record { place = sector_at (after_above staged id object next); sectors = sectors; fill = fill })
+
+-- the place of what is staged, or else another one
+abbrev pub place_or : Option Staging → Place → Place
+place_or None place = place
+place_or (Some e) place = e.place
+
+-- the record of an object is staged behind the blocks above it, or again at its place where it is staged
+abbrev pub staged_again : List (Slot × Staging) → DsId → ℕ → ℕ → Option ℕ → ℕ → List (Slot × Staging)
+staged_again staged id object sectors fill next =
+    let above = with_above staged id object next in
+    put_staged above (id, record_key object 0) (record { place = place_or (staged_at above (id, record_key object 0)) (sector_at (after_above staged id object next)); sectors = sectors; fill = fill })

@@ -1,30 +1,27 @@
 -- What each command is answered with, and what each task does when it runs.
-use Rattle.std.specs.Prelude.{◌≡◌, ℕ, ◌+◌, ◌==◌, ◌&&◌, ◌||◌, not, nat_lt, Bool, true, false, if◌then◌else◌, List, [], ◌∷◌, ◌++◌, length, Option, Some, None, is_some}
+use Rattle.std.specs.Prelude.{ℕ, ◌+◌, ◌==◌, ◌&&◌, ◌||◌, not, true, false, if◌then◌else◌, List, [], ◌∷◌, ◌++◌, length, Option, Some, None, is_some}
 use Rattle.std.specs.List.{list_any}
-use Rattle.zs_ids.specs.declared.key.Key.{Key}
-use Rattle.zs_ids.specs.declared.dataset.DsId.{DsId}
 use Rattle.zs_ids.specs.declared.dataset.DsName.{DsName}
 use Rattle.zs_ids.specs.declared.dataset.Name.{Name}
 use Rattle.zs_ids.specs.declared.limits.TheConstants.{TXG_END}
-use Rattle.zs_ids.specs.Key.{record_key}
-use Rattle.zs_ids.specs.Graph.{Dataset, Graph}
+use Rattle.zs_ids.specs.Graph.{Dataset}
 use Rattle.zs_txg.specs.declared.task.Task.{Task}
 use Rattle.zs_txg.specs.declared.task.Task.TheVariants as task
-use Rattle.zs_phys.specs.declared.scope.Kind.TheVariants as kind
 use Rattle.zs_phys.specs.declared.phys.Status.TheVariants as status
+use Rattle.zs_scan.specs.Steps.{scrub_scope}
 use Rattle.zs_script.specs.declared.refusal.Refusal.{Refusal}
-use Rattle.zs_script.specs.declared.refusal.Refusal.TheVariants.{Exists, TooMany, ScanBusy, NoScan, NoDataset, NoObject, ObjectThere, PastEnd, Suspended, TxgEnd}
+use Rattle.zs_script.specs.declared.refusal.Refusal.TheVariants.{Exists, TooMany, ScanBusy, NoDataset, NoObject, ObjectThere, PastEnd, Suspended, TxgEnd}
 use Rattle.zs_script.specs.declared.reply.Reply.{Reply}
 use Rattle.zs_script.specs.declared.reply.Reply.TheVariants as reply
-use Rattle.zs_core.specs.Machine.{PoolState, Data, ScanState, same_name, dataset_named, has_object, is_running}
+use Rattle.zs_core.specs.Machine.{PoolState, Data, ScanState, same_name, dataset_named, has_object, is_running, is_busy}
 
 -- a head of no blocks on the origin
 abbrev pub new_head : ℕ → Name → Dataset
 new_head id name = record { id = record { 0 = id }; head = true; owner = name; label = record { len = 0; bytes = 0 ∷ 0 ∷ 0 ∷ 0 ∷ 0 ∷ 0 ∷ 0 ∷ 0 ∷ 0 ∷ 0 ∷ 0 ∷ 0 ∷ [] }; parent = Some (record { 0 = 0 }); creation = 0; entries = [] }
 
--- a scrub that starts in that transaction group
-abbrev pub scrub_from : ℕ → ScanState
-scrub_from txg = record { kind = kind.Scrub; status = status.Scanning; paused = false; min = 0; max = txg; checked = []; saved = 0 }
+-- a scrub that starts in that transaction group, over mirrors of that width
+abbrev pub scrub_from : ℕ → ℕ → ScanState
+scrub_from width txg = record { scope = scrub_scope width txg; status = status.Scanning; paused = false; checked = []; saved = 0 }
 
 -- why a task is refused when it runs. A pool has one head; a second one is refused as one too many
 abbrev pub task_refusal : Data → Task → Option Refusal
@@ -32,13 +29,13 @@ task_refusal d (task.Fs name) =
     if list_any (λ x. x.head && same_name x.owner name) d.graph
     then Some Exists
     else (if list_any (λ x. x.head) d.graph then Some TooMany else None)
-task_refusal d task.Scrub = if is_running d.scan then Some ScanBusy else None
+task_refusal d task.Scrub = if is_busy d.scan then Some ScanBusy else None
 task_refusal d _ = None
 
 -- what a task that is not refused does in a transaction group
 abbrev pub after_task : ℕ → Data → Task → Data
 after_task txg d (task.Fs name) = record d { graph = d.graph ++ new_head d.next_id name ∷ []; next_id = d.next_id + 1 }
-after_task txg d task.Scrub = record d { scan = scrub_from txg }
+after_task txg d task.Scrub = record d { scan = if is_running d.scan then record d.scan { paused = false } else scrub_from d.scan.scope.width txg }
 after_task txg d _ = d
 
 -- what a task does: a refused one changes nothing
@@ -82,6 +79,18 @@ make_refusal s name object =
         if has_object s d object
         then Some ObjectThere
         else (if s.open_txg.txg == TXG_END then Some TxgEnd else None)
+
+-- why a `write` is refused, but for want of space: every object has one record
+abbrev pub write_refusal : PoolState → DsName → ℕ → ℕ → Option Refusal
+write_refusal s name object leaf =
+    if s.suspended then Some Suspended else refusal_in (dataset_named s.graph name)
+  where
+    refusal_in : Option Dataset → Option Refusal
+    refusal_in None = Some NoDataset
+    refusal_in (Some d) =
+        if not (has_object s d object)
+        then Some NoObject
+        else (if not (leaf == 0) then Some PastEnd else (if s.open_txg.txg == TXG_END then Some TxgEnd else None))
 
 -- why a `read` is refused: every object has one record
 abbrev pub read_refusal : PoolState → DsName → ℕ → ℕ → Option Refusal

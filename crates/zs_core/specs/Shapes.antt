@@ -1,7 +1,8 @@
 -- The numbers that a pool is made with, and the commands that it takes.
-use Rattle.std.specs.Prelude.{◌≡◌, ℕ, ◌+◌, ◌*◌, ◌/◌, ◌%◌, ◌≤◌, ◌<◌, List, length, slice_index}
+use Rattle.std.specs.Prelude.{◌≡◌, ℕ, ◌+◌, ◌*◌, ◌/◌, ◌%◌, ◌≤◌, ◌<◌, length, slice_index}
 use Rattle.zs_script.specs.declared.command.Command.{Command}
 use Rattle.zs_script.specs.declared.command.Command.TheVariants as command
+use Rattle.zs_script.specs.Lines.{IsMake, IsRecord}
 use Rattle.zs_script.specs.declared.reply.Reply.{Reply}
 use Rattle.zs_script.specs.declared.reply.Reply.TheVariants as reply
 use Rattle.zs_core.specs.declared.shape.Shape.{Shape}
@@ -21,11 +22,13 @@ pub record IsShape (s : Shape) : Type 0 where
   pub least : (k : ℕ) → k < length s.sectors → data_start s.blocks + 32 ≤ slice_index s.sectors k
   pub most : (k : ℕ) → k < length s.sectors → slice_index s.sectors k ≤ 2097152
 
--- the commands that stage a record or queue a task: a `make` of records up to the greatest size
+-- the commands that stage a record, queue a task or ask for the status, with numbers in their ranges
 abbrev pub IsPoolCommand : Command → Type 0
 IsPoolCommand (command.Fs name) = Unit {0}
 IsPoolCommand command.Scrub = Unit {0}
-IsPoolCommand (command.Make ds object levels size fill) = size ≤ 131072
+IsPoolCommand (command.Make ds object levels size fill) = IsMake object levels size
+IsPoolCommand (command.Write ds object leaf fill) = IsRecord object leaf
+IsPoolCommand command.Status = Unit {0}
 IsPoolCommand _ = ⊥
 
 -- the reply has no list

@@ -1,10 +1,8 @@
 -- The steps of the machine: which state an event leads to, and which replies it may have.
-use Rattle.std.specs.Prelude.{◌≡◌, ℕ, ◌+◌, ◌-◌, ◌*◌, ◌/◌, ◌^◌, ◌==◌, ◌<◌, unwrap_or, Bool, true, false, if◌then◌else◌, List, [], ◌∷◌, ◌++◌, length, min, filter, fold, map, Option, Some, None, is_some, ◌⊎◌, IsTrue}
+use Rattle.std.specs.Prelude.{◌≡◌, ℕ, ◌+◌, ◌-◌, ◌*◌, ◌/◌, ◌^◌, ◌==◌, ◌≤◌, unwrap_or, true, false, if◌then◌else◌, List, [], ◌∷◌, ◌++◌, length, filter, fold, map, Option, Some, None, is_some, ◌⊎◌}
 use Rattle.std.specs.Int.{from_be_bytes, w64}
 use Rattle.zs_ids.specs.declared.key.Key.{Key}
 use Rattle.zs_ids.specs.declared.block.Bp.{Bp}
-use Rattle.zs_ids.specs.declared.block.Piece.{Piece}
-use Rattle.zs_ids.specs.declared.block.Item.{Item}
 use Rattle.zs_ids.specs.declared.block.Place.{Place}
 use Rattle.zs_ids.specs.declared.dataset.DsId.{DsId}
 use Rattle.zs_ids.specs.declared.dataset.DsName.{DsName}
@@ -12,7 +10,7 @@ use Rattle.zs_ids.specs.declared.dataset.Name.{Name}
 use Rattle.zs_ids.specs.declared.limits.TheConstants.{TXG_END}
 use Rattle.zs_ids.specs.Key.{root_key, dnode_key, record_key}
 use Rattle.zs_ids.specs.Blocks.{bp_at, replaced}
-use Rattle.zs_ids.specs.Graph.{Dataset, Graph, Has, IsHeldBy, IsLive, pieces_of}
+use Rattle.zs_ids.specs.Graph.{Dataset, Graph}
 use Rattle.zs_sum.specs.Sum.{sha256}
 use Rattle.zs_objset.specs.declared.block.StagedBlock.{StagedBlock}
 use Rattle.zs_objset.specs.Staged.{AreBlocksOf, pointers_of}
@@ -22,10 +20,6 @@ use Rattle.zs_txg.specs.declared.staged.Staging.{Staging}
 use Rattle.zs_txg.specs.Txg.{Slot, staged_at, put_staged, staged_for, entry_of}
 use Rattle.zs_ledger.specs.declared.entry.Entry.{Entry}
 use Rattle.zs_ledger.specs.Entry.{has_error}
-use Rattle.zs_ledger.specs.Kept.{has_piece}
-use Rattle.zs_phys.specs.declared.scope.Kind.{Kind}
-use Rattle.zs_phys.specs.declared.scope.Kind.TheVariants as kind
-use Rattle.zs_phys.specs.declared.phys.Status.{Status}
 use Rattle.zs_phys.specs.declared.phys.Status.TheVariants as status
 use Rattle.zs_script.specs.declared.command.Command.{Command}
 use Rattle.zs_script.specs.declared.command.Command.TheVariants as command
@@ -34,19 +28,19 @@ use Rattle.zs_script.specs.declared.refusal.Refusal.TheVariants as refusal
 use Rattle.zs_script.specs.declared.reply.Reply.{Reply}
 use Rattle.zs_script.specs.declared.reply.Reply.TheVariants as reply
 use Rattle.zs_script.specs.declared.reply.Finished.{Finished}
-use Rattle.zs_script.specs.declared.reply.ScanKind.{ScanKind}
-use Rattle.zs_script.specs.declared.reply.ScanKind.TheVariants as scan_kind
-use Rattle.zs_core.specs.declared.event.Stage.{Stage}
 use Rattle.zs_core.specs.declared.event.Stage.TheVariants as stage
 use Rattle.zs_core.specs.declared.event.ReadPlan.{ReadPlan}
 use Rattle.zs_core.specs.declared.event.ReadPlan.TheVariants as plan
 use Rattle.zs_core.specs.declared.event.Step.{Step}
 use Rattle.zs_core.specs.declared.event.Step.TheVariants as step
 use Rattle.zs_core.specs.declared.event.Event.{Event}
-use Rattle.zs_core.specs.Waiting.{item_of}
+use Rattle.zs_scan.specs.Walks.{item_of}
+use Rattle.zs_scan.specs.Covered.{MayBeChecked, AllAreChecked}
+use Rattle.zs_scan.specs.Steps.{no_scope}
+use Rattle.zs_core.specs.Status.{TellsStatus, kind_word, counted}
 use Rattle.zs_core.specs.declared.parts.OpenRead.{OpenRead}
-use Rattle.zs_core.specs.Machine.{PoolState, Txg, Data, ScanState, dataset_named, staged_record, is_running, is_born_in_scope}
-use Rattle.zs_core.specs.Replies.{task_reply, after_queued, make_refusal, read_refusal, task_answers, after_tasks}
+use Rattle.zs_core.specs.Machine.{PoolState, Txg, Data, ScanState, dataset_named, staged_record, record_sectors, is_running, is_at_work}
+use Rattle.zs_core.specs.Replies.{task_reply, after_queued, make_refusal, write_refusal, read_refusal, task_answers, after_tasks}
 
 -- a transaction group in which nothing is staged or queued
 abbrev pub empty_txg : ℕ → Txg
@@ -59,10 +53,15 @@ staged_once staged slot place =
     then staged
     else put_staged staged slot (record { place = place; sectors = 8; fill = None })
 
--- record 0 of a new object is staged, with the blocks above it
+-- what was staged keeps its place
+abbrev pub KeepsPlace : Option Staging → Place → Type 0
+KeepsPlace None place = Unit {0}
+KeepsPlace (Some e) place = place ≡ e.place
+
+-- record 0 of an object is staged, with the blocks above it; what was staged before keeps its place
 abbrev pub IsStagedWith : List (Slot × Staging) → DsId → ℕ → ℕ → ℕ → List (Slot × Staging) → Type 0
 IsStagedWith old ds object sectors fill new =
-    (root : Place) × (dnode : Place) × (place : Place)
+    (root : Place) × (dnode : Place) × (place : Place) × KeepsPlace (staged_at old (ds, record_key object 0)) place
     × (new ≡ put_staged (staged_once (staged_once old (ds, root_key) root) (ds, dnode_key object) dnode) (ds, record_key object 0) (record { place = place; sectors = sectors; fill = Some fill }))
 
 -- a `make`: refused, or the record is staged. Whether there is space for it is left open
@@ -80,6 +79,21 @@ MakeStep s name object size fill answer t = refused (make_refusal s name object)
     refused (Some why) = (answer ≡ reply.Refused why) × (t ≡ s)
     refused None = ((answer ≡ reply.Refused refusal.NoSpace) × (t ≡ s)) ⊎ staged_in (dataset_named s.graph name)
 
+-- a `write`: refused, or the record is staged. Whether there is space for it is left open
+abbrev pub WriteStep : PoolState → DsName → ℕ → ℕ → ℕ → Reply → PoolState → Type 0
+WriteStep s name object leaf fill answer t = refused (write_refusal s name object leaf)
+  where
+    staged_in : Option Dataset → Type 0
+    staged_in None = ⊥
+    staged_in (Some d) =
+        (new : List (Slot × Staging)) × IsStagedWith s.open_txg.staged d.id object (record_sectors s d object) fill new
+        × (t ≡ record s { open_txg = record s.open_txg { staged = new } })
+        × (answer ≡ reply.Wrote name object leaf s.open_txg.txg)
+
+    refused : Option Refusal → Type 0
+    refused (Some why) = (answer ≡ reply.Refused why) × (t ≡ s)
+    refused None = ((answer ≡ reply.Refused refusal.NoSpace) × (t ≡ s)) ⊎ staged_in (dataset_named s.graph name)
+
 -- a line that queues a task
 abbrev pub TaskStep : PoolState → ℕ → Task → Reply → PoolState → Type 0
 TaskStep s by queued answer t = (answer ≡ task_reply s) × (t ≡ after_queued s by queued)
@@ -89,27 +103,23 @@ abbrev pub CommandStep : PoolState → ℕ → Command → Reply → PoolState �
 CommandStep s by (command.Fs name) answer t = TaskStep s by (task.Fs name) answer t
 CommandStep s by command.Scrub answer t = TaskStep s by task.Scrub answer t
 CommandStep s by (command.Make ds object levels size fill) answer t = MakeStep s ds object size fill answer t
+CommandStep s by (command.Write ds object leaf fill) answer t = WriteStep s ds object leaf fill answer t
+CommandStep s by command.Status answer t = TellsStatus s answer × (t ≡ s)
 CommandStep s by _ answer t = ⊥
 
--- a line whose events stand before it: only a refused one has a reply of its own
+-- a line whose events stand before it, with its reply: what a `sync` and a `finish` did is told by the replies of those
+-- events, and a `finish` comes to an end where no scan runs unpaused, or no transaction group is left
 abbrev pub LineStep : PoolState → Command → Reply → Type 0
-LineStep s c reply.Nothing = Unit {0}
 LineStep s c (reply.Refused refusal.Suspended) = s.suspended ≡ true
 LineStep s command.Finish (reply.Refused refusal.NoScan) = is_running s.scan ≡ false
+LineStep s command.Finish (reply.Refused refusal.Paused) = (is_running s.scan ≡ true) × (s.scan.paused ≡ true)
+LineStep s command.Finish reply.Nothing = (is_at_work s.scan ≡ false) ⊎ (s.open_txg.txg ≡ TXG_END)
+LineStep s command.Sync reply.Nothing = Unit {0}
+LineStep s (command.Walk n) (reply.Walked turns why waiting) = turns ≤ n
+LineStep s (command.Issue vdev n) (reply.Issued v pieces) = v ≡ vdev
+LineStep s (command.Hold vdev n) (reply.Held v sectors) = v ≡ vdev
+LineStep s command.Land (reply.Landed entries pieces) = Unit {0}
 LineStep s c _ = ⊥
-
--- an entry may be added: its piece is live and in scope, it has the size and sum of a pointer to it, and the
--- piece has none yet
-pub record MayBeChecked (s : PoolState) (e : Entry) : Type 0 where
-  pub holder : Dataset
-  pub is_dataset : Has s.graph holder
-  pub at : Key × Bp
-  pub is_entry : Has holder.entries at
-  pub is_piece : Has (pieces_of at.1) e.piece
-  pub size : e.sectors ≡ at.1.sectors
-  pub sum : e.sum ≡ at.1.sum
-  pub in_scope : is_born_in_scope s.scan e.piece.birth ≡ true
-  pub unchecked : has_piece s.scan.checked e.piece ≡ false
 
 -- the state with an entry more
 abbrev pub with_checked : PoolState → Entry → PoolState
@@ -118,7 +128,7 @@ with_checked s e = record s { scan = record s.scan { checked = s.scan.checked ++
 -- entries are added one after another
 abbrev pub VerdictStep : PoolState → List Entry → PoolState → Type 0
 VerdictStep s [] t = t ≡ s
-VerdictStep s (e ∷ es) t = (is_running s.scan ≡ true) × MayBeChecked s e × VerdictStep (with_checked s e) es t
+VerdictStep s (e ∷ es) t = (is_running s.scan ≡ true) × MayBeChecked s.graph s.scan.scope s.scan.checked e × VerdictStep (with_checked s e) es t
 
 -- the keys and pointers of the blocks that are staged for a dataset, over its entries
 pub record AreChanges (entries : List (Key × Bp)) (staged : List (Slot × Staging)) (txg : ℕ) (changes : List (Key × Bp)) : Type 0 where
@@ -148,10 +158,6 @@ AreWritten txg (d ∷ ds) (e ∷ es) = IsWritten txg.txg (staged_for txg.staged 
 AreWritten txg [] (e ∷ es) = ⊥
 AreWritten txg (d ∷ ds) [] = ⊥
 
--- every live piece in the scan's scope is checked
-abbrev pub AllAreChecked : PoolState → Type 0
-AllAreChecked s = (p : Piece) → IsLive s.graph p → is_born_in_scope s.scan p.birth ≡ true → has_piece s.scan.checked p ≡ true
-
 -- the state after the tasks of a transaction group have run on the data
 abbrev pub after_data : PoolState → Txg → Data → PoolState
 after_data s txg d =
@@ -162,7 +168,7 @@ after_data s txg d =
 pub record Finishes (s t : PoolState) : Type 0 where
   pub running : is_running s.scan ≡ true
   pub unpaused : s.scan.paused ≡ false
-  pub all : AllAreChecked s
+  pub all : AllAreChecked s.graph s.scan.scope s.scan.checked
   pub finished : t ≡ record s { scan = record s.scan { status = status.Finished; saved = length s.scan.checked }; finished = true }
 
 -- the scan comes to its end, or not
@@ -178,17 +184,11 @@ pub record DataStep (s t : PoolState) : Type 0 where
   pub written : AreWritten txg s.graph graph
   pub ended : EndStep (after_data s txg (record { graph = graph; next_id = s.next_id; scan = s.scan })) t
 
--- the word for a scan's kind
-abbrev pub kind_word : Kind → ScanKind
-kind_word kind.Resilver = scan_kind.Resilver
-kind_word _ = scan_kind.Scrub
-
--- the line of a scan that came to its end: how many pieces it checked, and how many of them are damaged; the numbers
--- stand still at their type's end
+-- the line of a scan that came to its end: how many pieces it checked, and how many of them are damaged
 abbrev pub finished_line : PoolState → Option Finished
 finished_line s =
     if s.finished
-    then Some (record { kind = kind_word s.scan.kind; checked = min (length s.scan.checked) 4294967295; errors = min (length (filter has_error s.scan.checked)) 4294967295 })
+    then Some (record { kind = kind_word s.scan.scope.kind; checked = counted (length s.scan.checked); errors = counted (length (filter has_error s.scan.checked)) })
     else None
 
 -- the reply to a sync that was committed. The one that makes the pool has no text
@@ -246,23 +246,23 @@ pub record ReadEndStep (s : PoolState) (by : ℕ) (p : ReadPlan) (answer : Reply
 abbrev pub no_name : Name
 no_name = record { len = 0; bytes = 0 ∷ 0 ∷ 0 ∷ 0 ∷ 0 ∷ 0 ∷ 0 ∷ 0 ∷ 0 ∷ 0 ∷ 0 ∷ 0 ∷ [] }
 
--- no scan was started yet
-abbrev pub no_scan : ScanState
-no_scan = record { kind = kind.Idle; status = status.Never; paused = false; min = 0; max = 0; checked = []; saved = 0 }
+-- no scan was started yet, over mirrors of that width
+abbrev pub no_scan : ℕ → ScanState
+no_scan width = record { scope = no_scope width; status = status.Never; paused = false; checked = []; saved = 0 }
 
 -- the pool of a `pool` line: the datasets are just the origin, and the empty transaction group 1 is closed
 abbrev pub origin : Dataset
 origin = record { id = record { 0 = 0 }; head = false; owner = no_name; label = no_name; parent = None; creation = 1; entries = [] }
 
-abbrev pub blank_state : ℕ → PoolState
-blank_state devices = record { graph = origin ∷ []; next_id = 1; applied = 0; online = 2 ^ devices - 1; open_txg = empty_txg 2; closed = Some (empty_txg 1); stage = stage.Writing; scan = no_scan; suspended = false; answers = []; finished = false; reads = [] }
+abbrev pub blank_state : ℕ → ℕ → PoolState
+blank_state width devices = record { graph = origin ∷ []; next_id = 1; applied = 0; online = 2 ^ devices - 1; open_txg = empty_txg 2; closed = Some (empty_txg 1); stage = stage.Writing; scan = no_scan width; suspended = false; answers = []; finished = false; reads = [] }
 
 -- the event with which a pool's history begins, and the state that it leads to
 abbrev pub Begins : Event → PoolState → Type 0
 Begins e s = begins e.step e.reply
   where
     begins : Step → Reply → Type 0
-    begins (step.Made (command.Pool pool width limit every blocks)) (reply.Made made mirrors) = (made ≡ pool) × (s ≡ blank_state (mirrors * width))
+    begins (step.Made (command.Pool pool width limit every blocks)) (reply.Made made mirrors) = (made ≡ pool) × (s ≡ blank_state width (mirrors * width))
     begins _ _ = ⊥
 
 -- one step of the machine
@@ -272,8 +272,9 @@ Steps s e t = steps e.step e.reply
     steps : Step → Reply → Type 0
     steps (step.Command c) answer = CommandStep s e.by c answer t
     steps (step.Line c) answer = LineStep s c answer × (t ≡ s)
+    steps (step.Walk turn) answer = (answer ≡ reply.Nothing) × (t ≡ s)
     steps (step.Hold number vdev online pieces) answer = (answer ≡ reply.Nothing) × (t ≡ s)
-    steps (step.Verdict number entries) answer = (answer ≡ reply.Nothing) × VerdictStep s entries t
+    steps (step.Verdict number pieces entries) answer = (answer ≡ reply.Nothing) × VerdictStep s entries t
     steps step.BeginSync (reply.RefusedSync txg why) = (txg ≡ s.open_txg.txg) × (why ≡ refusal.TxgEnd) × (s.open_txg.txg ≡ TXG_END) × (t ≡ s)
     steps step.BeginSync answer = (answer ≡ reply.Nothing) × (s.closed ≡ None) × (t ≡ record s { open_txg = empty_txg (s.open_txg.txg + 1); closed = Some s.open_txg; stage = stage.Writing })
     steps (step.EndData online) answer = (answer ≡ reply.Nothing) × (online ≡ s.online) × DataStep s t

@@ -1,25 +1,20 @@
 -- What contracts see of a pool: the machine's state, and beside it what is waiting, in flight and handed out.
-use Rattle.std.specs.Prelude.{◌≡◌, ℕ, ◌+◌, ◌<◌, ◌≤◌, Bool, true, false, List, [], ◌∷◌, ◌++◌, map, Option, Some, None, ◌⊎◌}
+use Rattle.std.specs.Prelude.{◌≡◌, ℕ, ◌+◌, true, List, [], ◌∷◌, ◌++◌, Option, Some, None}
 use Rattle.zs_ids.specs.declared.key.Key.{Key}
 use Rattle.zs_ids.specs.declared.block.Bp.{Bp}
-use Rattle.zs_ids.specs.declared.block.Item.{Item}
-use Rattle.zs_ids.specs.declared.dataset.DsId.{DsId}
 use Rattle.zs_ids.specs.Blocks.{bp_at}
-use Rattle.zs_ids.specs.Graph.{Dataset, Graph, Has}
+use Rattle.zs_ids.specs.Graph.{Dataset, Graph}
 use Rattle.zs_txg.specs.Txg.{Open, entries_for}
 use Rattle.zs_objset.specs.declared.block.StagedBlock.{StagedBlock}
 use Rattle.zs_objset.specs.Staged.{AreBlocksOf}
-use Rattle.zs_ledger.specs.Kept.{has_piece}
 use Rattle.zs_core.specs.declared.parts.Head.{Head}
 use Rattle.zs_core.specs.declared.parts.Closed.{Closed}
-use Rattle.zs_core.specs.declared.parts.Flying.{Flying}
-use Rattle.zs_core.specs.declared.parts.Scan.{Scan}
 use Rattle.zs_core.specs.declared.event.Event.{Event}
 use Rattle.zs_core.specs.declared.event.Step.{Step}
 use Rattle.zs_script.specs.declared.reply.Reply.{Reply}
-use Rattle.zs_core.specs.Waiting.{is_born_in, entries_from, item_of}
+use Rattle.zs_scan.specs.View.{ScanView}
 use Rattle.zs_core.specs.Machine.{PoolState, Txg, Data, ScanState}
-use Rattle.zs_core.specs.Steps.{origin, no_name, AreChanges}
+use Rattle.zs_core.specs.Steps.{origin, no_name}
 
 -- the head as a dataset
 abbrev pub dataset_of : Head → Dataset
@@ -53,29 +48,16 @@ abbrev pub closed_of : Option Closed → Option Txg
 closed_of None = None
 closed_of (Some c) = Some (txg_of c.txg)
 
--- the scan as the machine has it
-abbrev pub scan_of : Scan → ScanState
-scan_of s = record { kind = s.kind; status = s.status; paused = false; min = s.min; max = s.max; checked = s.ledger.entries; saved = s.saved }
-
--- a batch in flight: its number and its entries
-pub record Batched : Type 0 where
-  pub number : ℕ
-  pub entries : List (Key × Bp)
-
-abbrev pub batched_of : Flying → Batched
-batched_of f = record { number = f.number; entries = f.entries.items }
+-- the scan as the machine has it, with the number of its saved entries
+abbrev pub scan_of : ScanView → ℕ → ScanState
+scan_of v saved = record { scope = v.scope; status = v.run.status; paused = v.run.paused; checked = v.checked; saved = saved }
 
 -- what contracts see of the present state of a pool
 pub record CoreView : Type 0 where
   -- the machine's state
   pub state : PoolState
-  -- the live entries in the scan's scope that no batch has had yet, in order of key, and whether it was seen that
-  -- there are none
-  pub waiting : List (Key × Bp)
-  pub walked : Bool
-  -- the batch that has no verdict yet, and how many batches were taken
-  pub flight : Option Batched
-  pub batches : ℕ
+  -- the scan, with its bookmark, what waits and what is in flight
+  pub scan : ScanView
   -- the next sector to be handed out, and the first past the space
   pub next_sector : ℕ
   pub end_sector : ℕ
@@ -86,8 +68,8 @@ pub record PoolView : Type 0 where
   pub history : List Event
 
 -- what tasks change, of a pool with this head and scan
-abbrev pub data_of : Option Head → Scan → Data
-data_of head scan = record { graph = graph_of head; next_id = next_id_of head; scan = scan_of scan }
+abbrev pub data_of : Option Head → ScanView → ℕ → Data
+data_of head scan saved = record { graph = graph_of head; next_id = next_id_of head; scan = scan_of scan saved }
 
 -- one event was added to a history: a client's, with its step and its reply
 abbrev pub AddsEvent : ℕ → Step → Reply → List Event → List Event → Type 0

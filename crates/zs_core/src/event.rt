@@ -2,6 +2,7 @@
 
 use zs_ids::{Item, Piece, Seq};
 use zs_ledger::Entry;
+use zs_scan::Turn;
 use zs_script::{Command, Reply};
 
 /// How far the sync in progress has come.
@@ -40,6 +41,8 @@ pub enum Step {
     Command(Command),
     /// A line ended whose events stand before this one.
     Line(Command),
+    /// The walk made a turn.
+    Walk(Turn),
     /// A batch of pieces was taken to be checked.
     Hold {
         /// The batch.
@@ -55,6 +58,8 @@ pub enum Step {
     Verdict {
         /// The batch.
         number: u64,
+        /// Its pieces; none where no such batch was in flight.
+        pieces: Seq<Piece>,
         /// The entries that were made of it.
         entries: Seq<Entry>,
     },

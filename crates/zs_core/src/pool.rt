@@ -2,15 +2,25 @@
 
 ghost use Rattle.std.specs.Prelude.{◌≡◌, ◌≢◌, ◌≤◌, ◌<◌, ◌+◌, ◌++◌, ◌∷◌, [], false, true, length, vec_len, vec_capacity, IfOk, OnOk, OnErr, IsErrOf, MatchOption, take, drop, map, Some, None, OnSome};
 ghost use Rattle.std.specs.Option.{option_copied};
-ghost use Rattle.zs_core.specs.Machine.{is_running};
-ghost use Rattle.zs_core.specs.Steps.{LineStep};
-ghost use Rattle.zs_core.specs.Waiting.{item_of};
-ghost use Rattle.zs_core.specs.Reading.{IsGotFor};
+ghost use Rattle.zs_queue.specs.Waiting.{lowest};
+ghost use Rattle.zs_walk.specs.Walking.{runs};
+ghost use Rattle.zs_scan.specs.View.{pieces_in};
+ghost use Rattle.zs_scan.specs.Steps.{Taken, IsComplete, blank_scan};
+ghost use Rattle.zs_scan.specs.Walks.{Walked, IsFull};
+ghost use Rattle.zs_walk.specs.Left.{turns_left};
+ghost use Rattle.zs_core.specs.Machine.{is_running, is_at_work};
+ghost use Rattle.zs_core.specs.Line.{IsLineReply};
+ghost use Rattle.zs_core.specs.Status.{status_reply};
+ghost use Rattle.zs_core.specs.Steps.{committed_reply, DataStep};
+ghost use Rattle.zs_core.specs.Judging.{HasVerdict};
+ghost use Rattle.zs_core.specs.Synced.{AreGone, IsSynced};
+ghost use Rattle.zs_core.specs.Safe.{IsSafe, IsFullFor};
+ghost use Rattle.zs_core.specs.Reading.{IsGotFor, HasNoRead};
 ghost use Rattle.zs_core.specs.View.{Adds, AddsEvent};
 ghost use Rattle.std.specs.Prelude.{ℕ, List};
 ghost use Rattle.zs_ids.specs.declared.block.Piece.{Piece};
 ghost use Rattle.zs_core.specs.History.{IsHistory};
-ghost use Rattle.zs_core.specs.Shapes.{IsShape, IsPoolCommand, IsPlain};
+ghost use Rattle.zs_core.specs.Shapes.{IsShape, data_start, IsPoolCommand, IsPlain};
 
 use crate::event::{CommitFault, Event, ReadPlan, Stage, Step};
 use crate::present::Present;
@@ -19,9 +29,10 @@ use crate::shape::Shape;
 use std::alloc::{AllocError, Global};
 use std::marker::Model;
 use zs_ids::limits::TXG_END;
-use zs_ids::{DsName, Item, Seq};
+use zs_ids::{DsName, Item, Piece, Seq};
 use zs_ledger::Entry;
 use zs_objset::Staged;
+use zs_scan::{Batch, Scan, ScanFault, Turn};
 use zs_script::{Command, Refusal, Reply};
 use zs_txg::Task;
 
@@ -42,19 +53,6 @@ impl From<AllocError> for PoolFault {
     fn from(_error: AllocError) -> Self {
         PoolFault::Memory
     }
-}
-
-/// Pieces that were taken to be checked.
-#[derive(Debug, Drop)]
-pub struct Batch {
-    /// The batch's number.
-    pub number: u64,
-    /// Its mirror.
-    pub vdev: u8,
-    /// The devices that were online, a bit for each.
-    pub online: u32,
-    /// The pieces, in order of key.
-    pub items: Seq<Item>,
 }
 
 /// What the checks of a batch found.
@@ -92,6 +90,34 @@ fn note(history: &mut Vec<Event>, event: Event)
     ensures { history.new.items ≡ history.old.items ++ event ∷ [] }
 {
     history.push_reserved(event);
+}
+
+/// The pieces of some items, in a list without pieces that has room for them.
+fn filled(pieces: Vec<Piece>, items: &[Item]) -> Vec<Piece>
+    requires empty { pieces.items ≡ [] }
+    requires len { vec_len pieces ≡ 0 }
+    requires room { length items.now ≤ vec_capacity pieces }
+    ensures { result.items ≡ pieces_in items.now }
+{
+    let mut pieces = pieces;
+    for item in items {
+        pieces.push_reserved(item.piece);
+    }
+    pieces
+}
+
+/// The pieces of some entries, in a list without pieces that has room for them.
+fn pieces_judged(pieces: Vec<Piece>, entries: &[Entry]) -> Vec<Piece>
+    requires empty { pieces.items ≡ [] }
+    requires len { vec_len pieces ≡ 0 }
+    requires room { length entries.now ≤ vec_capacity pieces }
+    ensures { result.items ≡ map (λ e. e.piece) entries.now }
+{
+    let mut pieces = pieces;
+    for entry in entries {
+        pieces.push_reserved(entry.piece);
+    }
+    pieces
 }
 
 /// Adds the event of a command to a history that has room for it, and gives the reply back. The reply is one that
@@ -143,13 +169,17 @@ impl Pool {
     /// Makes a pool: a sync of transaction group 1, in which nothing is staged, is in progress.
     pub fn blank(alloc: Global, shape: Shape) -> Result<Pool, AllocError>
         requires { IsShape shape }
-        ensures made { IfOk result (λ p. Adds [] p.history) }
+        ensures made { IfOk result (λ p. AddsEvent 0 (Step.Made (Command.Pool shape.pool shape.width shape.limit shape.every shape.blocks)) (Reply.Made shape.pool 1) [] p.history) }
         ensures stage { IfOk result (λ p. p.core.state.stage ≡ Stage.Writing) }
         ensures up { IfOk result (λ p. p.core.state.suspended ≡ false) }
+        ensures scan { IfOk result (λ p. p.core.scan ≡ blank_scan shape.width shape.limit p.core.scan.room) }
+        ensures space { IfOk result (λ p. p.core.next_sector ≡ data_start shape.blocks) }
     {
         let mut history = Vec::new(alloc);
         history.reserve(1)?;
-        let present = Present::blank(alloc, shape.devices, shape.data_start(), shape.space_end());
+        let start = shape.data_start();
+        let end = shape.space_end();
+        let present = Present::blank(alloc, shape.devices, shape.width, shape.limit, start, end)?;
         let line = Command::Pool {
             pool: shape.pool,
             width: shape.width,
@@ -173,11 +203,28 @@ impl Pool {
         })
     }
 
-    /// What is true of each pool: its history is a run of the machine.
+    /// What is true of each pool: its history is a run of the machine, and unless it is suspended its scan misses nothing:
+    /// each live piece in the scope of a scan that was not canceled is checked, waits, flies or is ahead of the walk.
     pub fn facts(&self)
-        ensures { IsHistory self.now.history self.now.core.state }
+        ensures run { IsHistory self.now.history self.now.core.state }
+        ensures safe { self.now.core.state.suspended ≡ false → IsSafe self.now.core }
     {
-        let _alloc = self.alloc;
+        self.present.facts();
+    }
+
+    /// The scan.
+    pub fn scan(&self) -> &Scan
+        ensures { result.now ≡ self.now.core.scan }
+    {
+        self.present.scan()
+    }
+
+    /// Whether a scan is paused.
+    pub fn is_paused(&self) -> bool
+        ensures machine { result ≡ self.now.core.state.scan.paused }
+        ensures scan { result ≡ self.now.core.scan.run.paused }
+    {
+        self.present.is_paused()
     }
 
     /// How far the sync in progress has come.
@@ -196,7 +243,8 @@ impl Pool {
 
     /// Whether a scan is running.
     pub fn is_scanning(&self) -> bool
-        ensures { result ≡ is_running self.now.core.state.scan }
+        ensures machine { result ≡ is_running self.now.core.state.scan }
+        ensures scan { result ≡ runs self.now.core.scan.run.status }
     {
         self.present.is_scanning()
     }
@@ -214,6 +262,9 @@ impl Pool {
         ensures adds { IfOk result (λ answer. self.new.history ≡ self.old.history ++ record { by = by; step = Step.Command c.now; reply = answer } ∷ []) }
         ensures stage { OnOk result (self.new.core.state.stage ≡ self.old.core.state.stage) }
         ensures up { OnOk result (self.new.core.state.suspended ≡ self.old.core.state.suspended) }
+        ensures scan { self.new.core.scan ≡ self.old.core.scan }
+        ensures space { IfOk result (IsFullFor self.old.core c.now) }
+        ensures status { c.now ≡ Command.Status → IfOk result (λ answer. answer ≡ status_reply self.old.core.state self.old.core.scan) }
         ensures err { OnErr result (self.new ≡ self.old) }
     {
         self.history.reserve(1)?;
@@ -236,6 +287,26 @@ impl Pool {
                 let reply = self.present.make(ds, *object, *size, *fill)?;
                 Ok(record(&mut self.history, by, c, reply))
             }
+            Command::Write {
+                ds,
+                object,
+                leaf,
+                fill,
+            } => {
+                let reply = self.present.write(ds, *object, *leaf, *fill)?;
+                Ok(record(&mut self.history, by, c, reply))
+            }
+            Command::Status => {
+                let told = self.present.status()?;
+                let reply = self.present.status()?;
+                let event = Event {
+                    by,
+                    step: Step::Command(*c),
+                    reply: told,
+                };
+                note(&mut self.history, event);
+                Ok(reply)
+            }
             _ => unreachable!(),
         }
     }
@@ -248,6 +319,10 @@ impl Pool {
         ensures adds { OnOk result (Adds self.old.history self.new.history) }
         ensures stage { OnOk result (self.new.core.state.stage ≡ Stage.Writing) }
         ensures up { OnOk result (self.new.core.state.suspended ≡ false) }
+        ensures event { OnOk result (AddsEvent 0 Step.BeginSync Reply.Nothing self.old.history self.new.history) }
+        ensures scan { self.new.core.scan ≡ self.old.core.scan }
+        ensures machine { self.new.core.state.scan ≡ self.old.core.state.scan }
+        ensures told { IsErrOf result PoolFault.Refused → AddsEvent 0 Step.BeginSync (Reply.RefusedSync 4294967295 Refusal.TxgEnd) self.old.history self.new.history }
         ensures end { IsErrOf result PoolFault.Refused → self.old.core.state.open_txg.txg ≡ 4294967295 }
         ensures refused { IsErrOf result PoolFault.Refused → Adds self.old.history self.new.history × (self.new.core ≡ self.old.core) }
         ensures memory { IsErrOf result PoolFault.Memory → self.new ≡ self.old }
@@ -280,12 +355,19 @@ impl Pool {
         })
     }
 
-    /// Applies the closed transaction group: its blocks, then its tasks, and the scan may come to its end. After want
-    /// of memory the pool is suspended.
+    /// Applies the closed transaction group: its blocks, then its tasks, and the scan may come to its end. The pieces that
+    /// are not live any more are freed, a scrub may start or be resumed, and all else of the scan stays as it was. After
+    /// want of memory the pool is suspended.
     pub fn end_data(&mut self) -> Result<(), AllocError>
         requires writing { self.old.core.state.stage ≡ Stage.Writing }
         requires up { self.old.core.state.suspended ≡ false }
         ensures adds { OnOk result (Adds self.old.history self.new.history) }
+        ensures event { OnOk result (AddsEvent 0 (Step.EndData self.old.core.state.online) Reply.Nothing self.old.history self.new.history) }
+        ensures ends { OnOk result (IsComplete self.old.core.scan → is_at_work self.new.core.state.scan ≡ false) }
+        ensures step { OnOk result (DataStep self.old.core.state self.new.core.state) }
+        ensures space { OnOk result ((self.new.core.next_sector ≡ self.old.core.next_sector) × (self.new.core.end_sector ≡ self.old.core.end_sector)) }
+        ensures scan { OnOk result ((pieces : List Piece) × AreGone pieces self.old.core.state.graph self.new.core.state.graph × IsSynced pieces self.new.core.state.applied self.old.core.scan self.new.core.scan) }
+        ensures limit { OnOk result (self.new.core.scan.limit ≡ self.old.core.scan.limit) }
         ensures stage { OnOk result (self.new.core.state.stage ≡ Stage.Labelling) }
         ensures up { OnOk result (self.new.core.state.suspended ≡ false) }
     {
@@ -312,10 +394,10 @@ impl Pool {
         Ok(())
     }
 
-    /// Records that a line ended whose events stand before this one. Only a line that is refused has a reply of its
-    /// own.
+    /// Records that a line ended whose events stand before this one. Its reply is the one that these events and the pool
+    /// give; what a `sync` and a `finish` did is told by the replies of those events.
     pub fn line(&mut self, by: u8, c: &Command, reply: Reply) -> Result<(), AllocError>
-        requires { LineStep self.old.core.state c.now reply }
+        requires { IsLineReply self.old c.now reply }
         ensures adds { OnOk result (self.new.history ≡ self.old.history ++ record { by = by; step = Step.Line c.now; reply = reply } ∷ []) }
         ensures core { OnOk result (self.new.core ≡ self.old.core) }
         ensures err { OnErr result (self.new ≡ self.old) }
@@ -335,6 +417,8 @@ impl Pool {
         requires labelling { self.old.core.state.stage ≡ Stage.Labelling }
         requires up { self.old.core.state.suspended ≡ false }
         ensures adds { OnOk result (Adds self.old.history self.new.history) }
+        ensures event { OnOk result (AddsEvent 0 (Step.Committed self.old.core.state.online) (committed_reply self.old.core.state) self.old.history self.new.history) }
+        ensures core { OnOk result (self.new.core ≡ record self.old.core { state = record self.old.core.state { stage = Stage.Between } }) }
         ensures stage { OnOk result (self.new.core.state.stage ≡ Stage.Between) }
         ensures up { OnOk result (self.new.core.state.suspended ≡ false) }
     {
@@ -351,75 +435,99 @@ impl Pool {
         Ok(())
     }
 
-    /// Takes a batch of the first `n` pieces that wait. One batch is in flight at a time: where one is, there is no
-    /// memory for another.
+    /// Makes one turn of the walk. Refused as `Full` exactly where the turn would put a piece and as many wait as may; then
+    /// there is no event.
+    pub fn walk(&mut self, by: u8) -> Result<Turn, ScanFault>
+        requires up { self.old.core.state.suspended ≡ false }
+        ensures event { IfOk result (λ turn. AddsEvent by (Step.Walk turn) Reply.Nothing self.old.history self.new.history) }
+        ensures turn { IfOk result (λ turn. Walked self.old.core.state.graph self.old.core.scan turn self.new.core.scan) }
+        ensures left { IfOk result (λ turn. turn ≢ Turn.Nothing → turns_left self.old.core.state.graph self.new.core.scan.run < turns_left self.old.core.state.graph self.old.core.scan.run) }
+        ensures core { self.new.core ≡ record self.old.core { scan = self.new.core.scan } }
+        ensures full { IsErrOf result ScanFault.Full → IsFull self.old.core.state.graph self.old.core.scan }
+        ensures busy { IsErrOf result ScanFault.ScanBusy → ⊥ }
+        ensures err { OnErr result (self.new ≡ self.old) }
+    {
+        self.history.reserve(1)?;
+        let turn = self.present.walk()?;
+        let event = Event {
+            by,
+            step: Step::Walk(turn),
+            reply: Reply::Nothing,
+        };
+        note(&mut self.history, event);
+        Ok(turn)
+    }
+
+    /// Takes a batch of the lowest `n` pieces of a mirror that wait, at least 1. The batch is empty, and not in flight,
+    /// exactly where none waits.
     pub fn hold(&mut self, by: u8, vdev: u8, n: u32) -> Result<Batch, AllocError>
         requires some { 1 ≤ n }
         requires up { self.old.core.state.suspended ≡ false }
-        ensures adds { OnOk result (Adds self.old.history self.new.history) }
-        ensures event { IfOk result (λ b. (pieces : List Piece) × AddsEvent by (Step.Hold b.number vdev b.online pieces) Reply.Nothing self.old.history self.new.history) }
-        ensures mirror { IfOk result (λ b. b.vdev ≡ vdev) }
-        ensures items { IfOk result (λ b. b.items ≡ map (λ e. item_of e.1) (take n self.old.core.waiting)) }
-        ensures taken { IfOk result (λ b. length b.items ≡ length (take n self.old.core.waiting)) }
-        ensures rest { OnOk result (self.new.core.waiting ≡ drop n self.old.core.waiting) }
-        ensures walked { IfOk result (λ b. length b.items < n → self.new.core.walked ≡ true) }
-        ensures state { OnOk result (self.new.core.state ≡ self.old.core.state) }
-        ensures err { OnErr result (self.new ≡ self.old) }
+        ensures event { IfOk result (λ b. AddsEvent by (Step.Hold b.number vdev b.online (pieces_in b.items)) Reply.Nothing self.old.history self.new.history) }
+        ensures batch { IfOk result (λ b. b ≡ record { number = self.old.core.scan.batches; vdev = vdev; online = self.old.core.state.online; items = lowest self.old.core.scan.waiting vdev n }) }
+        ensures taken { IfOk result (λ b. 1 ≤ length b.items → Taken self.old.core.scan b self.new.core.scan) }
+        ensures none { IfOk result (λ b. length b.items ≡ 0 → self.new.core.scan ≡ record self.old.core.scan { room = self.new.core.scan.room }) }
+        ensures core { self.new.core ≡ record self.old.core { scan = self.new.core.scan } }
+        ensures err { OnErr result ((self.new.history ≡ self.old.history) × (self.new.core.scan ≡ record self.old.core.scan { room = self.new.core.scan.room })) }
     {
-        if self.present.is_flying() {
-            return Err(AllocError);
-        }
         self.history.reserve(1)?;
-        let online = self.present.online();
         let mut pieces = Vec::new(self.alloc);
         pieces.reserve(n as usize)?;
-        let (number, items) = self.present.hold(n)?;
-        for item in &items {
-            let _pushed = pieces.push(item.piece);
-        }
+        let Ok(batch) = self.present.take(vdev, n) else {
+            return Err(AllocError);
+        };
         let event = Event {
             by,
             step: Step::Hold {
-                number,
+                number: batch.number,
                 vdev,
-                online,
-                pieces: Seq::from_vec(pieces),
+                online: batch.online,
+                pieces: Seq::from_vec(filled(pieces, batch.items.as_slice())),
             },
             reply: Reply::Nothing,
         };
         note(&mut self.history, event);
-        Ok(Batch {
-            number,
-            vdev,
-            online,
-            items: Seq::from_vec(items),
-        })
+        Ok(batch)
     }
 
-    /// Takes what the checks of a batch found, and answers how many entries were made; 0 where no such batch is in
-    /// flight.
+    /// Takes what the checks of a batch found, and answers how many entries were made: one for each of its pieces that was
+    /// not freed and whose scan still runs; 0 where no such batch is in flight.
     pub fn verdict(&mut self, by: u8, v: &Verdicts) -> Result<usize, AllocError>
         requires up { self.old.core.state.suspended ≡ false }
-        ensures adds { OnOk result (Adds self.old.history self.new.history) }
-        ensures event { IfOk result (λ made. (entries : List Entry) × AddsEvent by (Step.Verdict v.now.number entries) Reply.Nothing self.old.history self.new.history × (length entries ≡ made)) }
-        ensures waiting { OnOk result (self.new.core.waiting ≡ self.old.core.waiting) }
-        ensures stage { OnOk result (self.new.core.state.stage ≡ self.old.core.state.stage) }
-        ensures up { OnOk result (self.new.core.state.suspended ≡ self.old.core.state.suspended) }
+        ensures judged { IfOk result (λ n. HasVerdict by self.old v.now n self.new) }
+        ensures core { self.new.core ≡ record self.old.core { state = record self.old.core.state { scan = self.new.core.state.scan }; scan = self.new.core.scan } }
+        ensures stage { self.new.core.state.stage ≡ self.old.core.state.stage }
+        ensures up { self.new.core.state.suspended ≡ self.old.core.state.suspended }
         ensures err { OnErr result (self.new ≡ self.old) }
     {
         self.history.reserve(1)?;
-        let entries = self.present.verdict(v.number, v.entries.as_slice())?;
-        let made = entries.as_slice().len();
+        let mut pieces = Vec::new(self.alloc);
+        pieces.reserve(v.entries.len())?;
+        let Some(made) = self.present.verdict(v.number, v.entries.as_slice())? else {
+            let event = Event {
+                by,
+                step: Step::Verdict {
+                    number: v.number,
+                    pieces: Seq::new(self.alloc),
+                    entries: Seq::new(self.alloc),
+                },
+                reply: Reply::Nothing,
+            };
+            note(&mut self.history, event);
+            return Ok(0);
+        };
+        let many = made.len();
         let event = Event {
             by,
             step: Step::Verdict {
                 number: v.number,
-                entries: Seq::from_vec(entries),
+                pieces: Seq::from_vec(pieces_judged(pieces, v.entries.as_slice())),
+                entries: Seq::from_vec(made),
             },
             reply: Reply::Nothing,
         };
         note(&mut self.history, event);
-        Ok(made)
+        Ok(many)
     }
 
     /// Begins a read, and answers its plan. Where it is refused, the event has the reply.
@@ -479,6 +587,7 @@ impl Pool {
         ensures adds { IfOk result (λ ended. ended ≡ true → Adds self.old.history self.new.history) }
         ensures event { IfOk result (λ ended. ended ≡ true → (reply : Reply) × AddsEvent by (Step.ReadEnd plan) reply self.old.history self.new.history) }
         ensures none { IfOk result (λ ended. ended ≡ false → self.new ≡ self.old) }
+        ensures absent { IfOk result (λ ended. ended ≡ false → HasNoRead self.old.core.state.reads by plan) }
         ensures stage { OnOk result (self.new.core.state.stage ≡ self.old.core.state.stage) }
         ensures up { OnOk result (self.new.core.state.suspended ≡ self.old.core.state.suspended) }
         ensures err { OnErr result (self.new ≡ self.old) }

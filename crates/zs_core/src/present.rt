@@ -3,22 +3,25 @@
 ghost use Rattle.std.specs.Prelude.{◌≡◌, ◌<◌, ◌≤◌, ◌+◌, ◌++◌, ◌∷◌, [], None, Some, true, false, IfOk, OnOk, OnErr, take, drop, length, if◌then◌else◌};
 ghost use Rattle.zs_objset.specs.Staged.{pointers_of};
 ghost use Rattle.zs_core.specs.Machine.{PoolState, is_running};
-ghost use Rattle.zs_core.specs.Steps.{TaskStep, MakeStep, blank_state, empty_txg, committed_reply, finished_line, kind_word};
+ghost use Rattle.zs_walk.specs.Walking.{runs};
+ghost use Rattle.zs_scan.specs.Steps.{blank_scan};
+ghost use Rattle.zs_core.specs.Steps.{TaskStep, blank_state, empty_txg, committed_reply, finished_line};
 ghost use Rattle.zs_core.specs.Replies.{task_reply, after_queued};
 ghost use Rattle.zs_core.specs.Shapes.{IsPlain};
+ghost use Rattle.zs_core.specs.Safe.{IsSafe};
 ghost use Rattle.zs_core.specs.View.{CoreView, AreHeadsBlocks};
 
-use crate::event::{ReadPlan, Stage};
-use crate::parts::{Closed, Flying, Head, OpenRead, Scan};
+use crate::event::Stage;
+use crate::heads::Heads;
+use crate::parts::{Closed, Head, OpenRead};
+use crate::status::{counted, kind_word};
 use std::alloc::{AllocError, Global};
 use std::marker::Model;
-use zs_flat::Flat;
 use zs_ids::limits::TXG_END;
-use zs_ids::{Blocks, Bp, DsId, DsName, Key, Name, Piece, Place, Seq};
-use zs_ledger::{Entry, Ledger};
+use zs_ids::{Bp, Key, Seq};
 use zs_objset::{StagedBlock, staged_blocks};
-use zs_phys::{Kind, Status};
-use zs_script::{Finished, Refusal, Reply, ScanKind};
+use zs_scan::Scan;
+use zs_script::{Finished, Refusal, Reply};
 use zs_txg::{OpenTxg, Task};
 
 /// The present state.
@@ -28,12 +31,13 @@ pub(crate) struct Present {
     pub(crate) online: u32,
     pub(crate) next_sector: u32,
     pub(crate) end_sector: u32,
-    pub(crate) head: Option<Head>,
+    pub(crate) heads: Heads,
     pub(crate) applied: u64,
     pub(crate) open: OpenTxg,
     pub(crate) closed: Option<Closed>,
     pub(crate) stage: Stage,
     pub(crate) scan: Scan,
+    pub(crate) saved: usize,
     pub(crate) suspended: bool,
     pub(crate) answers: Vec<Option<Refusal>>,
     pub(crate) finished: bool,
@@ -53,21 +57,31 @@ impl Model for Present {
 }
 
 impl Present {
-    /// The state of a pool that is made on so many devices, whose space is from one sector to another.
-    pub(crate) fn blank(alloc: Global, devices: u8, start: u32, end: u32) -> Self
+    /// The state of a pool that is made on so many devices, in mirrors of that width, whose space is from one sector to
+    /// another, and in which at most `limit` pieces may wait.
+    pub(crate) fn blank(
+        alloc: Global,
+        devices: u8,
+        width: u8,
+        limit: u32,
+        start: u32,
+        end: u32,
+    ) -> Result<Self, AllocError>
         requires devices { devices ≤ 16 }
+        requires some_may { 1 ≤ limit }
         requires space { start ≤ end }
         requires end { end ≤ 2097152 }
-        ensures state { result.state ≡ blank_state devices }
-        ensures waiting { result.waiting ≡ [] }
-        ensures flight { result.flight ≡ None }
+        ensures state { IfOk result (λ p. p.state ≡ blank_state width devices) }
+        ensures scan { IfOk result (λ p. p.scan ≡ blank_scan width limit p.scan.room) }
+        ensures space { IfOk result (λ p. p.next_sector ≡ start) }
     {
-        Present {
+        let scan = Scan::blank(alloc, width, limit)?;
+        Ok(Present {
             alloc,
             online: (1u32 << devices) - 1,
             next_sector: start,
             end_sector: end,
-            head: None,
+            heads: Heads { head: None },
             applied: 0,
             open: OpenTxg::new(alloc, 2),
             closed: Some(Closed {
@@ -75,22 +89,20 @@ impl Present {
                 changes: Vec::new(alloc),
             }),
             stage: Stage::Writing,
-            scan: Scan {
-                kind: Kind::Idle,
-                status: Status::Never,
-                min: 0,
-                max: 0,
-                next: None,
-                ledger: Ledger::new(alloc),
-                saved: 0,
-                flight: None,
-                batches: 0,
-            },
+            scan,
+            saved: 0,
             suspended: false,
             answers: Vec::new(alloc),
             finished: false,
             reads: Vec::new(alloc),
-        }
+        })
+    }
+
+    /// What is true of a state that is not suspended.
+    pub(crate) fn facts(&self)
+        ensures { self.now.state.suspended ≡ false → IsSafe self.now }
+    {
+        self.scan.facts();
     }
 
     /// Whether the pool is suspended.
@@ -116,9 +128,25 @@ impl Present {
 
     /// Whether a scan is running.
     pub(crate) fn is_scanning(&self) -> bool
-        ensures { result ≡ is_running self.now.state.scan }
+        ensures machine { result ≡ is_running self.now.state.scan }
+        ensures scan { result ≡ runs self.now.scan.run.status }
     {
-        self.scan.status == Status::Scanning
+        self.scan.is_running()
+    }
+
+    /// Whether a scan is paused.
+    pub(crate) fn is_paused(&self) -> bool
+        ensures machine { result ≡ self.now.state.scan.paused }
+        ensures scan { result ≡ self.now.scan.run.paused }
+    {
+        self.scan.run().paused
+    }
+
+    /// The scan.
+    pub(crate) fn scan(&self) -> &Scan
+        ensures { result.now ≡ self.now.scan }
+    {
+        &self.scan
     }
 
     /// The open transaction group.
@@ -161,7 +189,7 @@ impl Present {
         ensures err { OnErr result (self.new ≡ self.old) }
     {
         let txg = self.open.txg();
-        let blocks = staged_of(self.alloc, &self.head, &self.open)?;
+        let blocks = staged_of(self.alloc, &self.heads.head, &self.open)?;
         let changes = keyed_pointers(self.alloc, &blocks)?;
         let open = OpenTxg::new(self.alloc, txg + 1);
         let closed = std::mem::replace(&mut self.open, open);
@@ -196,9 +224,9 @@ impl Present {
             return None;
         }
         Some(Finished {
-            kind: kind_word(self.scan.kind),
-            checked: u32::try_from(self.scan.ledger.len()).unwrap_or(u32::MAX),
-            errors: u32::try_from(self.scan.ledger.error_count()).unwrap_or(u32::MAX),
+            kind: kind_word(self.scan.scope().kind),
+            checked: counted(self.scan.ledger().len()),
+            errors: counted(self.scan.ledger().error_count()),
         })
     }
 
@@ -241,14 +269,4 @@ fn keyed_pointers(alloc: Global, blocks: &[StagedBlock]) -> Result<Vec<(Key, Bp)
         .iter()
         .map(|block| (block.key, block.bp))
         .collect(alloc)
-}
-
-/// The word for a scan's kind.
-fn kind_word(kind: Kind) -> ScanKind
-    ensures { result ≡ kind_word kind }
-{
-    match kind {
-        Kind::Resilver => ScanKind::Resilver,
-        _ => ScanKind::Scrub,
-    }
 }

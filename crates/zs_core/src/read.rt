@@ -1,6 +1,6 @@
 //! Reads: where an answer comes from, and what is answered.
 
-ghost use Rattle.std.specs.Prelude.{◌≡◌, IfOk, OnErr, IfSome, IfNone, OnSome, ◌≤◌, true, length, ◌++◌, ◌∷◌, [], ℕ};
+ghost use Rattle.std.specs.Prelude.{◌≡◌, IfOk, OnErr, IfSome, IfNone, OnSome, ◌≤◌, true, IsTrue, ◌↔◌, length, ◌++◌, ◌∷◌, [], ℕ};
 ghost use Rattle.std.specs.Option.{option_copied};
 ghost use Rattle.std.specs.Int.{from_be_bytes, w64};
 ghost use Rattle.zs_ids.specs.Key.{record_key};
@@ -12,15 +12,15 @@ ghost use Rattle.zs_core.specs.Steps.{ReadBeginStep, ReadEndStep, IsReadAnswer, 
 ghost use Rattle.std.specs.Prelude.{Ok};
 ghost use Rattle.zs_core.specs.View.{dataset_of};
 ghost use Rattle.zs_script.specs.declared.refusal.Refusal.{Refusal};
-ghost use Rattle.zs_core.specs.Reading.{planned_of, begun_reply, IsGotFor, IsReadReply};
+ghost use Rattle.zs_core.specs.Reading.{planned_of, begun_reply, IsGotFor, IsReadReply, HasNoRead};
 
 use crate::event::ReadPlan;
 use crate::parts::{Head, OpenRead};
 use crate::present::Present;
-use crate::scan::item_of;
 use crate::staging::is_head_named;
 use std::alloc::AllocError;
 use zs_ids::{Blocks, DsId, DsName, Item, Key};
+use zs_scan::item_of;
 use zs_script::{Refusal, Reply};
 
 /// How a read began.
@@ -52,7 +52,7 @@ impl Present {
         if self.suspended {
             return Some(Refusal::Suspended);
         }
-        let Some(head) = &self.head else {
+        let Some(head) = &self.heads.head else {
             return Some(Refusal::NoDataset);
         };
         if !is_head_named(head, ds) {
@@ -98,7 +98,7 @@ impl Present {
         if let Some(refusal) = self.read_refusal(ds, object, leaf) {
             return Ok(Begun::Refused(refusal));
         }
-        let Some(head) = &self.head else {
+        let Some(head) = &self.heads.head else {
             return Ok(Begun::Refused(Refusal::NoDataset));
         };
         let plan = self.plan(head, object, leaf);
@@ -123,6 +123,7 @@ impl Present {
         ensures suspended { self.new.state.suspended ≡ self.old.state.suspended }
         ensures rest { self.new ≡ record self.old { state = self.new.state } }
         ensures none { IfNone result (self.new ≡ self.old) }
+        ensures absent { IfNone result (HasNoRead self.old.state.reads by plan.now) }
         ensures answer { IfSome result IsReadReply }
     {
         let Some(read) = self.reads.pop() else {
@@ -138,18 +139,14 @@ impl Present {
 
 /// Whether the two items are one.
 fn is_same_item(a: &Item, b: &Item) -> bool
-    ensures { result ≡ true → a.now ≡ b.now }
+    ensures { IsTrue result ↔ a.now ≡ b.now }
 {
-    a.piece.place.vdev == b.piece.place.vdev
-        && a.piece.place.sector == b.piece.place.sector
-        && a.piece.birth == b.piece.birth
-        && a.sectors == b.sectors
-        && a.sum == b.sum
+    a.piece == b.piece && a.sectors == b.sectors && a.sum == b.sum
 }
 
 /// Whether the two plans are one.
 fn is_same_plan(a: &ReadPlan, b: &ReadPlan) -> bool
-    ensures { result ≡ true → a.now ≡ b.now }
+    ensures { IsTrue result ↔ a.now ≡ b.now }
 {
     match a {
         ReadPlan::Staged(fill) => match b {

@@ -3,12 +3,14 @@
 ghost use Rattle.std.specs.Prelude.{nat_le, ◌≡◌, ◌<◌, ◌≤◌, ◌+◌, ◌/◌, ◌-◌, ◌%◌, ◌^◌, None, Some, true, false, IfOk, OnOk, OnErr, IsErrOf, ◌↔◌, is_some, if◌then◌else◌, option_map};
 ghost use Rattle.zs_ids.specs.Key.{root_key, dnode_key, record_key};
 ghost use Rattle.zs_txg.specs.Txg.{staged_at, put_staged};
-ghost use Rattle.zs_core.specs.Machine.{is_named, has_object, staged_record};
-ghost use Rattle.zs_core.specs.Replies.{make_refusal};
-ghost use Rattle.zs_core.specs.Steps.{MakeStep, IsStagedWith, staged_once};
+ghost use Rattle.zs_core.specs.Machine.{is_named, has_object, staged_record, record_sectors};
+ghost use Rattle.zs_core.specs.Replies.{make_refusal, write_refusal};
+ghost use Rattle.zs_script.specs.Lines.{IsMake};
+ghost use Rattle.zs_core.specs.Steps.{MakeStep, WriteStep, staged_once};
+ghost use Rattle.zs_core.specs.Placed.{staged_again};
 ghost use Rattle.zs_core.specs.Shapes.{IsPlain};
 ghost use Rattle.zs_core.specs.View.{dataset_of};
-ghost use Rattle.zs_core.specs.Kept.{sectors_to_make, IsFullExactly};
+ghost use Rattle.zs_core.specs.Kept.{sectors_to_stage, IsFullExactly};
 
 use crate::parts::Head;
 use crate::present::Present;
@@ -93,6 +95,19 @@ impl Present {
         }
     }
 
+    /// How many sectors each record of an object of the head has.
+    fn record_sectors(&self, head: &Head, object: u16) -> u16
+        ensures { result ≡ record_sectors self.now.state (dataset_of head.now) object }
+    {
+        if let Some(staging) = self.staging(head.id, record_key(object)) {
+            return staging.sectors;
+        }
+        match head.map.get(record_key(object)) {
+            Some(bp) => bp.sectors,
+            None => 0,
+        }
+    }
+
     /// Why a `make` is refused, but for want of space.
     fn make_refusal(&self, ds: &DsName, object: u16) -> Option<Refusal>
         ensures { result ≡ make_refusal self.now.state ds.now object }
@@ -100,7 +115,7 @@ impl Present {
         if self.suspended {
             return Some(Refusal::Suspended);
         }
-        let Some(head) = &self.head else {
+        let Some(head) = &self.heads.head else {
             return Some(Refusal::NoDataset);
         };
         if !is_head_named(head, ds) {
@@ -108,6 +123,31 @@ impl Present {
         }
         if self.has_object(head, object) {
             return Some(Refusal::ObjectThere);
+        }
+        if self.open.txg() == TXG_END {
+            return Some(Refusal::TxgEnd);
+        }
+        None
+    }
+
+    /// Why a `write` is refused, but for want of space.
+    fn write_refusal(&self, ds: &DsName, object: u16, leaf: u32) -> Option<Refusal>
+        ensures { result ≡ write_refusal self.now.state ds.now object leaf }
+    {
+        if self.suspended {
+            return Some(Refusal::Suspended);
+        }
+        let Some(head) = &self.heads.head else {
+            return Some(Refusal::NoDataset);
+        };
+        if !is_head_named(head, ds) {
+            return Some(Refusal::NoDataset);
+        }
+        if !self.has_object(head, object) {
+            return Some(Refusal::NoObject);
+        }
+        if leaf != 0 {
+            return Some(Refusal::PastEnd);
         }
         if self.open.txg() == TXG_END {
             return Some(Refusal::TxgEnd);
@@ -123,19 +163,19 @@ impl Present {
         size: u32,
         fill: u64,
     ) -> Result<Reply, AllocError>
-        requires { size ≤ 131072 }
+        requires numbers { IsMake object 1 size }
         ensures step { IfOk result (λ answer. MakeStep self.old.state ds.now object size fill answer self.new.state) }
         ensures plain { IfOk result IsPlain }
         ensures stage { self.new.state.stage ≡ self.old.state.stage }
         ensures suspended { self.new.state.suspended ≡ self.old.state.suspended }
-        ensures space { IfOk result (λ answer. IsFullExactly self.old ds.now object (size / 512) answer) }
+        ensures space { IfOk result (λ answer. IsFullExactly self.old (make_refusal self.old.state ds.now object) ds.now object (λ d. size / 512) answer) }
         ensures rest { OnOk result (self.new ≡ record self.old { state = self.new.state; next_sector = self.new.next_sector }) }
         ensures err { OnErr result (self.new ≡ self.old) }
     {
         if let Some(refusal) = self.make_refusal(ds, object) {
             return Ok(Reply::Refused(refusal));
         }
-        let Some(head) = &self.head else {
+        let Some(head) = &self.heads.head else {
             return Ok(Reply::Refused(Refusal::NoDataset));
         };
         let id = head.id;
@@ -144,7 +184,7 @@ impl Present {
         if self.next_sector + needed > self.end_sector {
             return Ok(Reply::Refused(Refusal::NoSpace));
         }
-        stage_all(&mut self.open, id, object, sectors, fill, self.next_sector)?;
+        stage_record(&mut self.open, id, object, sectors, fill, self.next_sector)?;
         self.next_sector += needed;
         Ok(Reply::Wrote {
             ds: *ds,
@@ -153,11 +193,49 @@ impl Present {
             txg: self.open.txg(),
         })
     }
+
+    /// Stages a record of an object that is there, in the head of that name.
+    pub(crate) fn write(
+        &mut self,
+        ds: &DsName,
+        object: u16,
+        leaf: u32,
+        fill: u64,
+    ) -> Result<Reply, AllocError>
+        ensures step { IfOk result (λ answer. WriteStep self.old.state ds.now object leaf fill answer self.new.state) }
+        ensures plain { IfOk result IsPlain }
+        ensures stage { self.new.state.stage ≡ self.old.state.stage }
+        ensures suspended { self.new.state.suspended ≡ self.old.state.suspended }
+        ensures space { IfOk result (λ answer. IsFullExactly self.old (write_refusal self.old.state ds.now object leaf) ds.now object (λ d. record_sectors self.old.state d object) answer) }
+        ensures rest { OnOk result (self.new ≡ record self.old { state = self.new.state; next_sector = self.new.next_sector }) }
+        ensures err { OnErr result (self.new ≡ self.old) }
+    {
+        if let Some(refusal) = self.write_refusal(ds, object, leaf) {
+            return Ok(Reply::Refused(refusal));
+        }
+        let Some(head) = &self.heads.head else {
+            return Ok(Reply::Refused(Refusal::NoDataset));
+        };
+        let id = head.id;
+        let sectors = self.record_sectors(head, object);
+        let needed = sectors_needed(&self.open, id, object, sectors);
+        if self.next_sector + needed > self.end_sector {
+            return Ok(Reply::Refused(Refusal::NoSpace));
+        }
+        stage_record(&mut self.open, id, object, sectors, fill, self.next_sector)?;
+        self.next_sector += needed;
+        Ok(Reply::Wrote {
+            ds: *ds,
+            object,
+            leaf,
+            txg: self.open.txg(),
+        })
+    }
 }
 
-/// How many sectors a record needs with the blocks above it that are not staged yet.
+/// How many sectors the record of an object needs with the blocks above it, of those that are not staged yet.
 fn sectors_needed(open: &OpenTxg, ds: DsId, object: u16, sectors: u16) -> u32
-    ensures needed { result ≡ sectors_to_make open.now.staged ds object sectors }
+    ensures needed { result ≡ sectors_to_stage open.now.staged ds object sectors }
     ensures few { result ≤ 65551 }
 {
     let root: u32 = if open.get(ds, Key::ROOT).is_some() {
@@ -170,11 +248,17 @@ fn sectors_needed(open: &OpenTxg, ds: DsId, object: u16, sectors: u16) -> u32
     } else {
         8
     };
-    root + dnode + u32::from(sectors)
+    let record: u32 = if open.get(ds, record_key(object)).is_some() {
+        0
+    } else {
+        u32::from(sectors)
+    };
+    root + dnode + record
 }
 
-/// Stages record 0 of a new object, with the blocks above it that are not staged yet, from a sector on.
-fn stage_all(
+/// Stages record 0 of an object, with the blocks above it, those that are not staged yet from a sector on. A record that
+/// is staged keeps its place.
+fn stage_record(
     open: &mut OpenTxg,
     ds: DsId,
     object: u16,
@@ -184,14 +268,17 @@ fn stage_all(
 ) -> Result<(), AllocError>
     requires { sector + 16 < 2 ^ 32 }
     ensures kept { open.new ≡ record open.old { staged = open.new.staged; room = open.new.room } }
-    ensures staged { OnOk result (IsStagedWith open.old.staged ds object sectors fill open.new.staged) }
+    ensures staged { OnOk result (open.new.staged ≡ staged_again open.old.staged ds object sectors (Some fill) sector) }
     ensures err { OnErr result (open.new.staged ≡ open.old.staged) }
 {
     open.reserve(3)?;
     let next = stage_once(open, ds, Key::ROOT, sector);
     let sector = stage_once(open, ds, dnode_key(object), next);
-    let place = Place { vdev: 0, sector };
     let record = record_key(object);
+    let place = match open.get(ds, record) {
+        Some(staging) => staging.place,
+        None => Place { vdev: 0, sector },
+    };
     if open.stage(ds, record, place, sectors, Some(fill)).is_err() {
         unreachable!();
     }

@@ -1,37 +1,40 @@
 //! Running the tasks of a transaction group.
 
-ghost use Rattle.std.specs.Prelude.{◌≡◌, ◌≤◌, IfOk, OnOk, if◌then◌else◌, is_some};
+ghost use Rattle.std.specs.Prelude.{◌≡◌, IfOk, OnOk};
 ghost use Rattle.zs_core.specs.Replies.{task_refusal, after_run, task_answers, after_tasks};
 ghost use Rattle.zs_core.specs.View.{data_of};
-ghost use Rattle.zs_core.specs.declared.parts.Scan.{Scan};
-ghost use Rattle.zs_core.specs.declared.parts.Head.{Head};
-ghost use Rattle.std.specs.Prelude.{ℕ, Option, List};
-ghost use Rattle.zs_txg.specs.Txg.{Slot};
-ghost use Rattle.zs_txg.specs.declared.staged.Staging.{Staging};
-ghost use Rattle.zs_core.specs.Kept.{Walks, IsForHead};
+ghost use Rattle.zs_core.specs.Running.{RunsOn};
 
-use crate::parts::{Head, Scan};
+use crate::heads::Heads;
+use crate::parts::Head;
 use std::alloc::{AllocError, Global};
 use zs_flat::Flat;
-use zs_ids::{DsId, Key, Name};
-use zs_phys::{Kind, Status};
+use zs_ids::{DsId, Name};
+use zs_scan::Scan;
 use zs_script::Refusal;
 use zs_txg::{OpenTxg, Task};
 
 /// Makes a filesystem, which is the pool's head.
-fn run_fs(alloc: Global, name: Name, head: &mut Option<Head>) -> Option<Refusal>
-    ensures step { (scan : Scan) (txg : ℕ) → (result ≡ task_refusal (data_of head.old scan) (Task.Fs name)) × (data_of head.new scan ≡ after_run txg (data_of head.old scan) (Task.Fs name)) }
-    ensures walks { (scan : Scan) (txg : ℕ) → Walks head.old scan txg → Walks head.new scan txg }
-    ensures staged { (staged : List (Slot × Staging)) → IsForHead head.old staged → IsForHead head.new staged }
+fn run_fs(
+    alloc: Global,
+    txg: u64,
+    name: Name,
+    heads: &mut Heads,
+    scan: &Scan,
+    saved: usize,
+) -> Option<Refusal>
+    ensures refusal { result ≡ task_refusal (data_of heads.old.head scan.now saved) (Task.Fs name) }
+    ensures after { data_of heads.new.head scan.now saved ≡ after_run txg (data_of heads.old.head scan.now saved) (Task.Fs name) }
+    ensures runs_on { RunsOn txg heads.old.head scan.now heads.new.head scan.now }
 {
-    if let Some(there) = head {
+    if let Some(there) = &heads.head {
         return Some(if there.name == name {
             Refusal::Exists
         } else {
             Refusal::TooMany
         });
     }
-    *head = Some(Head {
+    heads.head = Some(Head {
         id: DsId(1),
         name,
         map: Flat::new(alloc),
@@ -39,21 +42,19 @@ fn run_fs(alloc: Global, name: Name, head: &mut Option<Head>) -> Option<Refusal>
     None
 }
 
-/// Starts a scrub of what is born before a transaction group.
-fn run_scrub(txg: u64, scan: &mut Scan) -> Option<Refusal>
-    ensures step { (head : Option Head) → (result ≡ task_refusal (data_of head scan.old) Task.Scrub) × (data_of head scan.new ≡ after_run txg (data_of head scan.old) Task.Scrub) }
-    ensures walks { (head : Option Head) → Walks head scan.old txg → Walks head scan.new txg }
+/// Starts a scrub of what is born before a transaction group, or resumes a paused one.
+fn run_scrub(txg: u64, heads: &Heads, scan: &mut Scan, saved: &mut usize) -> Option<Refusal>
+    ensures refusal { result ≡ task_refusal (data_of heads.now.head scan.old saved.old) Task.Scrub }
+    ensures after { data_of heads.now.head scan.new saved.new ≡ after_run txg (data_of heads.now.head scan.old saved.old) Task.Scrub }
+    ensures runs_on { RunsOn txg heads.now.head scan.old heads.now.head scan.new }
 {
-    if scan.status == Status::Scanning {
+    let resumes = scan.is_running();
+    if scan.start_scrub(txg, 0).is_err() {
         return Some(Refusal::ScanBusy);
     }
-    scan.kind = Kind::Scrub;
-    scan.status = Status::Scanning;
-    scan.min = 0;
-    scan.max = txg;
-    scan.next = Some(Key::ROOT);
-    scan.ledger.clear();
-    scan.saved = 0;
+    if !resumes {
+        *saved = 0;
+    }
     None
 }
 
@@ -62,17 +63,17 @@ pub(crate) fn run_task(
     alloc: Global,
     txg: u64,
     task: &Task,
-    head: &mut Option<Head>,
+    heads: &mut Heads,
     scan: &mut Scan,
+    saved: &mut usize,
 ) -> Option<Refusal>
-    ensures refusal { result ≡ task_refusal (data_of head.old scan.old) task.now }
-    ensures after { data_of head.new scan.new ≡ after_run txg (data_of head.old scan.old) task.now }
-    ensures walks { Walks head.old scan.old txg → Walks head.new scan.new txg }
-    ensures staged { (staged : List (Slot × Staging)) → IsForHead head.old staged → IsForHead head.new staged }
+    ensures refusal { result ≡ task_refusal (data_of heads.old.head scan.old saved.old) task.now }
+    ensures after { data_of heads.new.head scan.new saved.new ≡ after_run txg (data_of heads.old.head scan.old saved.old) task.now }
+    ensures runs_on { RunsOn txg heads.old.head scan.old heads.new.head scan.new }
 {
     match task {
-        Task::Fs(name) => run_fs(alloc, *name, head),
-        Task::Scrub => run_scrub(txg, scan),
+        Task::Fs(name) => run_fs(alloc, txg, *name, heads, scan, *saved),
+        Task::Scrub => run_scrub(txg, heads, scan, saved),
         _ => None,
     }
 }
@@ -81,18 +82,18 @@ pub(crate) fn run_task(
 pub(crate) fn run_tasks(
     alloc: Global,
     txg: &OpenTxg,
-    head: &mut Option<Head>,
+    heads: &mut Heads,
     scan: &mut Scan,
+    saved: &mut usize,
 ) -> Result<Vec<Option<Refusal>>, AllocError>
-    ensures answers { IfOk result (λ v. v.items ≡ task_answers txg.now.txg (data_of head.old scan.old) txg.now.tasks) }
-    ensures after { OnOk result (data_of head.new scan.new ≡ after_tasks txg.now.txg (data_of head.old scan.old) txg.now.tasks) }
-    ensures walks { OnOk result (Walks head.old scan.old txg.now.txg → Walks head.new scan.new txg.now.txg) }
-    ensures staged { OnOk result ((staged : List (Slot × Staging)) → IsForHead head.old staged → IsForHead head.new staged) }
+    ensures answers { IfOk result (λ v. v.items ≡ task_answers txg.now.txg (data_of heads.old.head scan.old saved.old) txg.now.tasks) }
+    ensures after { OnOk result (data_of heads.new.head scan.new saved.new ≡ after_tasks txg.now.txg (data_of heads.old.head scan.old saved.old) txg.now.tasks) }
+    ensures runs_on { OnOk result (RunsOn txg.now.txg heads.old.head scan.old heads.new.head scan.new) }
 {
     let number = txg.txg();
     let mut answers = Vec::new(alloc);
     for (_, task) in txg.queued() {
-        let refusal = run_task(alloc, number, task, head, scan);
+        let refusal = run_task(alloc, number, task, heads, scan, saved);
         answers.push(refusal)?;
     }
     Ok(answers)

@@ -1,4 +1,4 @@
-use Rattle.std.proofs.Common.{◌≡◌, ◌∙◌, sym}
+use Rattle.std.proofs.Common.{◌∙◌, sym}
 use Rattle.zs_core.proofs.Put.{put_more}
 use Rattle.zs_core.proofs.apply.put_changes.Goals as goal
 

@@ -1,5 +1,5 @@
 -- The history begins with the pool's making.
-use Rattle.std.proofs.Common.{◌≡◌, ◌∙◌, ℕ, ap, refl, [], ◌++◌, ◌∷◌, ◌*◌, List, arith}
+use Rattle.std.proofs.Common.{◌≡◌, ◌∙◌, ap, refl, [], ◌*◌, arith}
 use Rattle.zs_script.specs.declared.command.Command.TheVariants.{Pool}
 use Rattle.zs_script.specs.declared.reply.Reply.TheVariants as reply
 use Rattle.zs_core.specs.declared.event.Step.TheVariants as step
@@ -14,8 +14,9 @@ invariant_of-result c =
       first = record { by = 0; step = step.Made (Pool c.args.shape.pool c.args.shape.width c.args.shape.limit c.args.shape.every c.args.shape.blocks); reply = reply.Made c.args.shape.pool 1 };
       others = [];
       is = event_added _ _ [] _ c.note.ensures (c.in_ok-reserve.ensures.items ∙ c.new-history.ensures.items);
-      start = c.blank-present.result.state;
-      begins = (refl, c.blank-present.ensures.state ∙ ap blank_state one);
-      kept = c.blank-present.result.state;
+      start = c.in_ok-present.present.state;
+      begins = (refl, c.in_ok-present.ensures.state ∙ ap (blank_state c.args.shape.width) one);
+      kept = c.in_ok-present.present.state;
       run = refl;
+      told = rw (event_added _ _ [] _ c.note.ensures (c.in_ok-reserve.ensures.items ∙ c.new-history.ensures.items)) (tt, tt);
     }

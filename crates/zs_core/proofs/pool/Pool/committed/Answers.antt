@@ -1,4 +1,3 @@
-use Rattle.std.proofs.Common.{◌≡◌, ◌∙◌, ap, [], ◌++◌, ◌∷◌}
 use Rattle.zs_core.specs.declared.event.Step.TheVariants as step
 use Rattle.zs_core.proofs.Histories.{event_added}
 use Rattle.zs_core.proofs.pool.Pool.committed.Goals as goal

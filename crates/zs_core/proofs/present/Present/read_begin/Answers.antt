@@ -1,4 +1,4 @@
-use Rattle.std.proofs.Common.{◌≡◌, ◌∙◌, sym, ap, refl}
+use Rattle.std.proofs.Common.{◌∙◌, sym, ap, refl}
 use Rattle.zs_core.specs.Kept.{view_of}
 use Rattle.zs_core.specs.Replies.{read_refusal}
 use Rattle.zs_core.specs.Steps.{plan_in}

@@ -1,34 +1,21 @@
--- The batch in flight is checked, and its entries are those that the machine may add.
-use Rattle.std.proofs.Common.{◌≡◌, ◌∙◌, ◌++◌, sym, ap, subst, length, List, false, refl}
-use Rattle.zs_ledger.specs.declared.entry.Entry.{Entry}
-use Rattle.zs_core.specs.Adding.{AddsAll, IsDoneTo}
-use Rattle.zs_core.specs.Kept.{view_of, Facts}
-use Rattle.zs_core.proofs.Judging.{verdict_steps, verdict_walks, runs}
+-- The batch has its verdict: what was made may be added, and the scan stays the datasets' own.
+use Rattle.std.proofs.Common.{◌∙◌, sym, ap, refl}
+use Rattle.std.proofs.lemmas.Bool.{true≢false}
+use Rattle.zs_scan.specs.View.{ScanView}
+use Rattle.zs_core.specs.Kept.{Facts, view_of}
+use Rattle.zs_core.proofs.Scanned.{with_scan}
+use Rattle.zs_core.proofs.Judged.{judged_step}
 use Rattle.zs_core.proofs.present.Present.verdict.Goals as goal
 
-up : (c : goal.Joined-self-3) → c.self.inside.suspended ≡ false
-up c = ap (λ v. v.state.suspended) c.self.view_is ∙ c.requires.up
+pub returns-then-not-is_verdict-clause-judged : goal.returns-then-not-is_verdict-clause-judged
+returns-then-not-is_verdict-clause-judged c = (λ is. true≢false (sym (c.if-not-is_verdict.ensures.1 (rw (← c.self.view_is) at is))), refl)
 
-entries : (c : goal.Joined-self-3) → c.add_all.new.ledger.entries ≡ c.self.inside.scan.ledger.entries ++ c.add_all.new.made.items
-entries c = c.add_all.ensures.entries ∙ ap (λ l. l ++ c.add_all.new.made.items) c.reserve.ensures.entries
-
-pub invariant_of-self-2 : goal.invariant_of-self-2
-invariant_of-self-2 c = λ up.
-    let f : Facts c.self.inside = c.self.invariant up in
-    let w = rw c.in-Some-head.is at f.walks in
-    record {
-      walks = rw c.in-Some-head.is (verdict_walks c.in-Some-head.head c.self.inside.scan c.self.inside.applied c.in-Some.flying c.add_all.new.made.items c.add_all.new.ledger w c.in-Some.is (entries c) (rw c.deref.ensures.value at c.add_all.ensures.done));
-      staged = f.staged;
-      at_stage = f.at_stage;
-      space = f.space;
-      end = f.end;
-      limit = f.limit;
-    }
+pub invariant_of-self : goal.invariant_of-self
+invariant_of-self c = λ up.
+    with_scan c.self.inside c.verdict.new.self (c.self.invariant up) (ap (λ (v : ScanView). v.limit) (c.verdict.ensures.judged).rest) (λ start blocks was. c.verdict.ensures.keeps _ _ _ _ was)
 
 pub returns-clause-step : goal.returns-clause-step
-returns-clause-step c = rw (← c.self.view_is)
-    (let f : Facts c.self.inside = c.self.invariant (up c) in
-    let w = rw c.in-Some-head.is at f.walks in
-    let running = runs c.self.inside.head c.self.inside.scan c.self.inside.applied c.in-Some.flying f.walks c.in-Some.is in
-    let adds = rw c.reserve.ensures.entries at c.add_all.ensures.adds in
-    rw (entries c) (verdict_steps c.in-Some-head.head c.self.inside.applied w.entries c.add_all.new.made.items (view_of c.self.inside).state (rw c.in-Some-head.is refl) running adds))
+returns-clause-step c =
+    let up = ap (λ v. v.state.suspended) c.self.view_is ∙ c.requires.up in
+    let f : Facts c.self.inside = c.self.invariant up in
+    rw (← c.self.view_is) (judged_step (view_of c.self.inside).state c.self.inside.scan c.verdict.new.self c.self.inside.saved c.args.number c.args.entries.now c.in_ok-made.made.items refl c.facts.ensures c.verdict.ensures.judged c.in_ok-made.ensures (rw c.in_ok-made.ensures (c.verdict.ensures.made_of _ (f.scan).live)))

@@ -1,0 +1,14 @@
+-- A batch that is taken, and the room for it, leave the scan the datasets' own.
+use Rattle.std.proofs.Common.{ap}
+use Rattle.zs_scan.specs.View.{ScanView}
+use Rattle.zs_scan.proofs.Takes.{room_keeps}
+use Rattle.zs_core.proofs.Scanned.{with_scan, taken_limit}
+use Rattle.zs_core.proofs.present.Present.take.Goals as goal
+
+pub invariant_of-self : goal.invariant_of-self
+invariant_of-self c = λ up.
+    with_scan c.self.inside c.take.new.self (c.self.invariant up) (ap (λ (v : ScanView). v.limit) c.in_err-batch.ensures.err) (λ start blocks was. rw c.in_err-batch.ensures.err (room_keeps _ _ _ _ _ _ was))
+
+pub invariant_of-self-2 : goal.invariant_of-self-2
+invariant_of-self-2 c = λ up.
+    with_scan c.self.inside c.take.new.self (c.self.invariant up) (taken_limit c.self.inside.scan c.take.new.self c.in_ok-batch.batch c.in_ok-batch.ensures.taken c.in_ok-batch.ensures.none) (λ start blocks was. c.in_ok-batch.ensures.keeps _ _ _ _ was)
