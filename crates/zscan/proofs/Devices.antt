@@ -1,12 +1,11 @@
 -- A call on one device of a list, seen in what all of them tell.
-use Rattle.std.proofs.Common.{arith, ◌≡◌, ℕ, ◌+◌, ◌<◌, List, ◌++◌, take, drop, length, map, set, get_or, ap, sym, ◌∙◌, subst, Result, Ok, Err}
+use Rattle.std.proofs.Common.{arith, ◌≡◌, ℕ, ◌+◌, ◌<◌, List, ◌++◌, take, drop, length, map, set, get_or, sym, ◌∙◌, subst, Ok, Err}
 use Rattle.std.specs.Prelude.{IsErrOf}
 use Rattle.std.proofs.lemmas.List.{get_or-set_same, map-set, get_or-map, length-map, get_or_default, length-drop, length-take}
 use Rattle.std.proofs.lemmas.List.Edits.{map_over_more}
 use Rattle.std.proofs.Math.Seq.{map-set_same}
 use Rattle.zs_io.specs.Faults.{Rose, HasCause}
 use Rattle.zs_io.specs.declared.fault.BayFault.{BayFault}
-use Rattle.zs_io.specs.declared.fault.BayFault.TheVariants.{Failed, Memory}
 use Rattle.zscan.specs.Mirror.{SomeRose, HaveCause}
 
 -- the call was done: the counts are as they were

@@ -1,6 +1,11 @@
 pub mod Devices
 pub mod Texts
 pub mod Histories
+pub mod LineSteps
+pub mod Commands
+pub mod Judged
+pub mod Draining
+pub mod Walking
 pub mod Refusals
 pub mod Scripts
 pub mod Backs

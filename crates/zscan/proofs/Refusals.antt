@@ -1,11 +1,10 @@
 -- Why images are refused.
-use Rattle.std.proofs.Common.{◌≡◌, ℕ, ◌+◌, ◌<◌, ◌≤◌, ◌^◌, ◌-◌, min, List, [], ◌∷◌, length, slice_index, Option, Err, map, subst, refl, arith}
+use Rattle.std.proofs.Common.{◌≡◌, ℕ, List, length, Option, Err, refl, arith}
 use Rattle.std.specs.Prelude.{IsErrOf}
 use Rattle.zs_script.specs.declared.refusal.Refusal.{Refusal}
 use Rattle.zs_script.specs.declared.refusal.Refusal.TheVariants.{Shape, NotBlank}
 use Rattle.zs_script.specs.declared.reply.Reply.TheVariants.{Refused}
 use Rattle.zs_script.specs.Texts.{reply_text, reply_lines}
-use Rattle.zs_io.specs.Faults.{Rose}
 use Rattle.zscan.specs.Mirror.{SomeRose}
 use Rattle.zscan.specs.Puts.{PutsRefusal, refused_line}
 use Rattle.zscan.proofs.Texts.{part_none}

@@ -1,9 +1,10 @@
 -- What a sink tells after several puts.
-use Rattle.std.proofs.Common.{◌≡◌, ℕ, ◌+◌, ◌<◌, List, [], ◌∷◌, ◌++◌, length, take, drop, get_or, min, arith, Option, Some, None, option_map, flat_map, subst, ap, refl, sym, ◌∙◌, append_assoc}
+use Rattle.std.proofs.Common.{◌≡◌, ℕ, ◌+◌, ◌<◌, List, [], ◌∷◌, ◌++◌, length, take, drop, get_or, min, arith, Option, Some, None, option_map, subst, ap, refl, sym, ◌∙◌, append_assoc}
 use Rattle.std.proofs.lemmas.List.{append-nil, take_more, drop_more, take_all, take-append-le, take-append-drop, take_min}
 use Rattle.std.proofs.Math.Seq.{take-append-add, drop-append_seam}
 use Rattle.std.proofs.lemmas.Grind.{flat_map-append}
 use Rattle.zs_script.specs.Texts.{reply_text}
+use Rattle.zs_script.specs.declared.command.Command.{Command}
 use Rattle.zs_core.specs.declared.event.Event.{Event}
 use Rattle.zs_core.specs.History.{text_of}
 use Rattle.zscan.specs.Puts.{Puts, PutsPart}
@@ -85,7 +86,7 @@ part_of_event events i e start mid end is lt was part =
     part_at events i e start mid end lt was (subst (λ (x : Event). PutsPart (reply_text x.by x.reply) mid end) is part)
 
 -- the same, where those that came since are what stands behind the old ones
-pub part_rest : (start mid end : Option (List ℕ)) (old new rest : List Event) → GoesOn old new → rest ≡ drop (length old) new → Puts (text_of old) start mid → PutsPart (text_of rest) mid end → PutsPart (text_of new) start end
-part_rest start mid end old new rest goes is was part =
+pub part_rest : (start mid end : Option (List ℕ)) (old new rest : List Event) (cs : List Command) → GoesOn old new cs → rest ≡ drop (length old) new → Puts (text_of old) start mid → PutsPart (text_of rest) mid end → PutsPart (text_of new) start end
+part_rest start mid end old new rest cs goes is was part =
     let more : rest ≡ goes.more = is ∙ (ap (λ es. drop (length old) es) goes.is ∙ drop-append_seam old goes.more) in
     part_more start mid end old goes.more new goes.is was (subst (λ (es : List Event). PutsPart (text_of es) mid end) more part)

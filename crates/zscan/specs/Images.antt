@@ -1,5 +1,5 @@
 -- The images of a pool: which can be made a new one, seen as the list of their sizes and the list of what each tells.
-use Rattle.std.specs.Prelude.{◌≡◌, ◌≢◌, ◌==◌, ℕ, ◌+◌, ◌*◌, ◌/◌, ◌<◌, ◌≤◌, min, Bool, true, false, List, Option, length, map, slice_index, slice_range}
+use Rattle.std.specs.Prelude.{◌≡◌, ◌≢◌, ◌==◌, ℕ, ◌+◌, ◌*◌, ◌/◌, ◌<◌, ◌≤◌, min, Bool, true, false, List, Option, length, slice_index, slice_range}
 use Rattle.std.specs.List.{list_all}
 use Rattle.zs_io.specs.Told.{Told}
 use Rattle.zs_script.specs.declared.refusal.Refusal.{Refusal}

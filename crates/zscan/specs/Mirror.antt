@@ -11,7 +11,7 @@ use Rattle.zs_io.specs.declared.fault.BayFault.{BayFault}
 use Rattle.zs_io.specs.declared.fault.BayFault.TheVariants.{Failed, Memory}
 use Rattle.zs_ledger.specs.declared.entry.Entry.{Entry}
 use Rattle.zs_ledger.specs.declared.entry.CopyResult.{CopyResult}
-use Rattle.zs_ledger.specs.declared.entry.CopyResult.TheVariants.{Missing, Good, Rewritten, Bad, Fault, Absent}
+use Rattle.zs_ledger.specs.declared.entry.CopyResult.TheVariants.{Missing, Good, Rewritten, Bad}
 use Rattle.sha2.specs.Sha256.{sha256}
 
 -- the first byte of a copy

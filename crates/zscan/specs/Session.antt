@@ -1,8 +1,10 @@
 -- A session: when the pool is ready for a line, how its history goes on, and how a session ends.
-use Rattle.std.specs.Prelude.{◌≡◌, ◌≤◌, ◌%◌, ℕ, false, List, [], ◌∷◌, ◌++◌, Result, Option, Some, None, OnOk, IsErrOf}
+use Rattle.std.specs.Prelude.{◌≡◌, ℕ, false, List, [], ◌∷◌, ◌++◌, map, take, Result, Option, OnOk, IsErrOf}
 use Rattle.zs_core.specs.declared.event.Event.{Event}
 use Rattle.zs_core.specs.declared.event.Stage.TheVariants.{Between}
 use Rattle.zs_core.specs.View.{PoolView}
+use Rattle.zs_core.specs.Told.{line_steps}
+use Rattle.zs_core.specs.Commands.{commands_of}
 use Rattle.zs_io.specs.Faults.{Rose}
 use Rattle.zs_script.specs.declared.command.Command.{Command}
 use Rattle.zs_script.specs.declared.command.Command.TheVariants as commands
@@ -13,22 +15,36 @@ use Rattle.zscan.specs.declared.stop.Stop.TheVariants as stops
 use Rattle.zscan.specs.Mirror.{SomeRose}
 use Rattle.zscan.specs.Images.{AreFit, IsImageFault}
 
--- the numbers of a `pool` line are in their ranges
-pub record IsInRange (w l e b : ℕ) : Type 0 where
-  pub width : (1 ≤ w) × (w ≤ 4)
-  pub blocks : (64 ≤ b) × (b ≤ 65536) × (b % 4 ≡ 0)
-  pub limit : (1 ≤ l) × (l ≤ 65536)
-  pub every : (1 ≤ e) × (e ≤ 1000)
-
 -- no sync is in progress and the pool is not suspended
-pub record IsReady (p : PoolView) : Type 0 where
+pub record IsUp (p : PoolView) : Type 0 where
   pub between : p.core.state.stage ≡ Between
   pub up : p.core.state.suspended ≡ false
 
--- the history is the old one and what came since
-pub record GoesOn (old new : List Event) : Type 0 where
+-- the pool is ready for a line: it is up, and no steps of a line stand at the end of its history that no event closed
+pub record IsReady (p : PoolView) : Type 0 where
+  pub between : p.core.state.stage ≡ Between
+  pub up : p.core.state.suspended ≡ false
+  pub fresh : line_steps p.history ≡ []
+
+-- the history is the old one and what came since, which has just these commands
+pub record GoesOn (old new : List Event) (commands : List Command) : Type 0 where
   pub more : List Event
   pub is : new ≡ old ++ more
+  pub has : commands_of more ≡ commands
+
+-- the history went on with a beginning of these commands
+pub record GoesPart (old new : List Event) (commands : List Command) : Type 0 where
+  pub many : ℕ
+  pub part : GoesOn old new (take many commands)
+
+-- the commands of lines, in order
+abbrev pub commands_in : List Line → List Command
+commands_in lines = map (λ line. line.command) lines
+
+-- these commands are the first of all
+pub record AreFirst (commands all : List Command) : Type 0 where
+  pub many : ℕ
+  pub first : commands ≡ take many all
 
 -- why lines are no longer run: the count of a device rose, or that of the sink, or memory was wanting
 pub record HasReason {T : Type 0} (devices_before devices_now : List ℕ) (sink_before sink_now : ℕ) (result : Result T Stop) : Type 0 where

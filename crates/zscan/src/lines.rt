@@ -1,237 +1,31 @@
 //! What each line of a script does to the pool and its devices.
 
-ghost use Rattle.std.specs.Prelude.{◌≡◌, ◌≤◌, ◌<◌, ◌+◌, ◌*◌, ℕ, true, false, length, map, OnOk, OnErr, IfOk, IsErrOf, Err, slice_index_or};
+ghost use Rattle.std.specs.Prelude.{◌≡◌, ◌≤◌, ◌+◌, ◌*◌, ◌∷◌, [], ℕ, false, length, map, OnOk, OnErr, IsErrOf, Err};
 ghost use Rattle.std.specs.Option.{option_copied};
-ghost use Rattle.zs_core.specs.Steps.{LineStep};
-ghost use Rattle.zscan.specs.Mirror.{IsOn, HaveCause};
-ghost use Rattle.zscan.specs.Session.{IsReady, GoesOn};
+ghost use Rattle.zs_core.specs.Line.{IsLineReply};
 ghost use Rattle.zs_core.specs.Reading.{IsGotFor};
 ghost use Rattle.zs_core.specs.Shapes.{IsPoolCommand};
+ghost use Rattle.zs_script.specs.Lines.{IsLater};
+ghost use Rattle.zscan.specs.Mirror.{HaveCause};
+ghost use Rattle.zscan.specs.Session.{IsUp, IsReady, GoesOn, GoesPart};
 
-use crate::images::size_at;
-use crate::mirror::{check, end_of, put_blocks, read_any};
+use crate::batches::{BLOCK_BYTES, hold, is_on_each, issue};
+use crate::finishing::{finish, sync};
+use crate::landing::land;
+use crate::mirror::read_any;
+use crate::turns::walk;
 use std::alloc::Global;
-use zs_core::{Pool, PoolFault, ReadPlan, Stage, Verdicts};
-use zs_ids::{DsName, Item, Seq};
+use zs_core::{Pool, PoolFault, ReadPlan};
+use zs_ids::DsName;
 use zs_io::{BayFault, Device};
-use zs_ledger::Entry;
-use zs_script::{Command, Line, Refusal, Reply};
-
-/// The greatest size of a block in bytes.
-pub const BLOCK_BYTES: usize = 131_072;
-
-/// How many pieces `finish` takes at once.
-const BATCH: u32 = 32;
-
-/// Whether a copy of the item is whole on each of the devices.
-fn is_on_each<D: Device>(devices: &[D], item: &Item) -> bool
-    ensures { result ≡ true → (k : ℕ) → k < length devices.now → IsOn item.now (slice_index_or (map D.size devices.now) k 0) }
-{
-    let end = end_of(item);
-    for i in 0..devices.len() {
-        if size_at(devices, i) < end {
-            return false;
-        }
-    }
-    true
-}
-
-/// Checks the items in order, and gives one entry for each.
-fn check_items<D: Device>(
-    alloc: Global,
-    devices: &mut [D],
-    items: &[Item],
-    good: &mut [u8],
-    buf: &mut [u8],
-) -> Result<Vec<Entry>, BayFault>
-    requires width { length devices.old ≤ 4 }
-    requires good { length good.old ≡ 131072 }
-    requires buf { length buf.old ≡ 131072 }
-    ensures entries { IfOk result (λ entries. length entries.items ≡ length items.now) }
-    ensures sizes { map D.size devices.new ≡ map D.size devices.old }
-    ensures cause { HaveCause (map D.faults devices.old) (map D.faults devices.new) result }
-{
-    let mut entries = Vec::new(alloc);
-    for item in items {
-        let entry = match check_item(devices, item, good, buf) {
-            Ok(entry) => entry,
-            Err(fault) => return Err(fault),
-        };
-        match entries.push(entry) {
-            Ok(()) => {}
-            Err(_) => return Err(BayFault::Memory),
-        }
-    }
-    Ok(entries)
-}
-
-/// Checks an item. That a pool's pieces lie on its devices is tested here, and not proved yet.
-fn check_item<D: Device>(
-    devices: &mut [D],
-    item: &Item,
-    good: &mut [u8],
-    buf: &mut [u8],
-) -> Result<Entry, BayFault>
-    requires width { length devices.old ≤ 4 }
-    requires good { length good.old ≡ 131072 }
-    requires buf { length buf.old ≡ 131072 }
-    ensures sizes { map D.size devices.new ≡ map D.size devices.old }
-    ensures cause { HaveCause (map D.faults devices.old) (map D.faults devices.new) result }
-{
-    let size = 512 * usize::from(item.sectors);
-    if size > BLOCK_BYTES || !is_on_each(devices, item) {
-        return Err(BayFault::Memory);
-    }
-    match check(devices, item, &mut good[..size], &mut buf[..size]) {
-        Ok(entry) => Ok(entry),
-        Err(fault) => Err(fault),
-    }
-}
-
-/// Takes what waits to be checked, a batch at a time, and checks it, until nothing waits.
-fn check_waiting<D: Device>(
-    alloc: Global,
-    pool: &mut Pool,
-    devices: &mut [D],
-    by: u8,
-    good: &mut [u8],
-    buf: &mut [u8],
-) -> Result<(), BayFault>
-    requires ready { IsReady pool.old }
-    requires width { length devices.old ≤ 4 }
-    requires good { length good.old ≡ 131072 }
-    requires buf { length buf.old ≡ 131072 }
-    ensures ready { OnOk result (IsReady pool.new) }
-    ensures goes_on { OnOk result (GoesOn pool.old.history pool.new.history) }
-    ensures went_on { IsErrOf result BayFault.Failed → GoesOn pool.old.history pool.new.history }
-    ensures sizes { map D.size devices.new ≡ map D.size devices.old }
-    ensures cause { HaveCause (map D.faults devices.old) (map D.faults devices.new) result }
-{
-    loop {
-        match check_batch(alloc, pool, devices, by, good, buf) {
-            Ok(true) => {}
-            Ok(false) => return Ok(()),
-            Err(fault) => return Err(fault),
-        }
-    }
-}
-
-/// Takes a batch and checks it; whether there was one.
-fn check_batch<D: Device>(
-    alloc: Global,
-    pool: &mut Pool,
-    devices: &mut [D],
-    by: u8,
-    good: &mut [u8],
-    buf: &mut [u8],
-) -> Result<bool, BayFault>
-    requires ready { IsReady pool.old }
-    requires width { length devices.old ≤ 4 }
-    requires good { length good.old ≡ 131072 }
-    requires buf { length buf.old ≡ 131072 }
-    ensures fewer { IfOk result (λ more. more ≡ true → length pool.new.core.waiting < length pool.old.core.waiting) }
-    ensures ready { OnOk result (IsReady pool.new) }
-    ensures goes_on { OnOk result (GoesOn pool.old.history pool.new.history) }
-    ensures went_on { IsErrOf result BayFault.Failed → GoesOn pool.old.history pool.new.history }
-    ensures sizes { map D.size devices.new ≡ map D.size devices.old }
-    ensures cause { HaveCause (map D.faults devices.old) (map D.faults devices.new) result }
-{
-    let Ok(batch) = pool.hold(by, 0, BATCH) else {
-        return Err(BayFault::Memory);
-    };
-    if batch.items.len() == 0 {
-        return Ok(false);
-    }
-    let verdicts = match check_items(alloc, devices, batch.items.as_slice(), good, buf) {
-        Ok(entries) => Verdicts {
-            number: batch.number,
-            entries: Seq::from_vec(entries),
-        },
-        Err(fault) => return Err(fault),
-    };
-    match pool.verdict(by, &verdicts) {
-        Ok(_) => Ok(true),
-        Err(_) => Err(BayFault::Memory),
-    }
-}
-
-/// Commits what is staged: writes its blocks, and applies it.
-fn sync<D: Device>(pool: &mut Pool, devices: &mut [D]) -> Result<(), BayFault>
-    requires ready { IsReady pool.old }
-    ensures ready { OnOk result (IsReady pool.new) }
-    ensures goes_on { OnOk result (GoesOn pool.old.history pool.new.history) }
-    ensures went_on { IsErrOf result BayFault.Failed → GoesOn pool.old.history pool.new.history }
-    ensures sizes { map D.size devices.new ≡ map D.size devices.old }
-    ensures cause { HaveCause (map D.faults devices.old) (map D.faults devices.new) result }
-{
-    let staged = match pool.begin_sync() {
-        Ok(staged) => staged,
-        Err(PoolFault::Refused) => return Ok(()),
-        Err(PoolFault::Memory) => return Err(BayFault::Memory),
-    };
-    match put_blocks(devices, staged.blocks.as_slice()) {
-        Ok(()) => {}
-        Err(fault) => return Err(fault),
-    }
-    commit(pool)
-}
-
-/// Applies what a sync has written, and commits it. Fails only for want of memory.
-pub fn commit(pool: &mut Pool) -> Result<(), BayFault>
-    requires writing { pool.old.core.state.stage ≡ Stage.Writing }
-    requires up { pool.old.core.state.suspended ≡ false }
-    ensures ready { OnOk result (IsReady pool.new) }
-    ensures goes_on { OnOk result (GoesOn pool.old.history pool.new.history) }
-    ensures memory { OnErr result (result ≡ Err BayFault.Memory) }
-{
-    let Ok(()) = pool.end_data() else {
-        return Err(BayFault::Memory);
-    };
-    let Ok(()) = pool.committed() else {
-        return Err(BayFault::Memory);
-    };
-    Ok(())
-}
-
-/// Brings the scan to its end: checks all that waits, and commits.
-fn finish<D: Device>(
-    alloc: Global,
-    pool: &mut Pool,
-    devices: &mut [D],
-    by: u8,
-    good: &mut [u8],
-    buf: &mut [u8],
-) -> Result<(), BayFault>
-    requires ready { IsReady pool.old }
-    requires width { length devices.old ≤ 4 }
-    requires good { length good.old ≡ 131072 }
-    requires buf { length buf.old ≡ 131072 }
-    ensures ready { OnOk result (IsReady pool.new) }
-    ensures goes_on { OnOk result (GoesOn pool.old.history pool.new.history) }
-    ensures went_on { IsErrOf result BayFault.Failed → GoesOn pool.old.history pool.new.history }
-    ensures sizes { map D.size devices.new ≡ map D.size devices.old }
-    ensures cause { HaveCause (map D.faults devices.old) (map D.faults devices.new) result }
-{
-    if !pool.is_scanning() {
-        return end_line(pool, by, &Command::Finish, Reply::Refused(Refusal::NoScan));
-    }
-    match check_waiting(alloc, pool, devices, by, good, buf) {
-        Ok(()) => {}
-        Err(fault) => return Err(fault),
-    }
-    match sync(pool, devices) {
-        Ok(()) => {}
-        Err(fault) => return Err(fault),
-    }
-    end_line(pool, by, &Command::Finish, Reply::Nothing)
-}
+use zs_script::{Command, Line, Reply};
 
 /// Records that a line ended, with its reply. Fails only for want of memory.
-fn end_line(pool: &mut Pool, by: u8, command: &Command, reply: Reply) -> Result<(), BayFault>
-    requires step { LineStep pool.old.core.state command.now reply }
-    requires ready { IsReady pool.old }
+pub fn end_line(pool: &mut Pool, by: u8, command: &Command, reply: Reply) -> Result<(), BayFault>
+    requires reply { IsLineReply pool.old command.now reply }
+    requires up { IsUp pool.old }
     ensures ready { OnOk result (IsReady pool.new) }
-    ensures goes_on { OnOk result (GoesOn pool.old.history pool.new.history) }
+    ensures goes_on { OnOk result (GoesOn pool.old.history pool.new.history (command.now ∷ [])) }
     ensures memory { OnErr result (result ≡ Err BayFault.Memory) }
 {
     let Ok(()) = pool.line(by, command, reply) else {
@@ -253,8 +47,8 @@ fn read<D: Device>(
     requires ready { IsReady pool.old }
     requires buf { length buf.old ≡ 131072 }
     ensures ready { OnOk result (IsReady pool.new) }
-    ensures goes_on { OnOk result (GoesOn pool.old.history pool.new.history) }
-    ensures went_on { IsErrOf result BayFault.Failed → GoesOn pool.old.history pool.new.history }
+    ensures goes_on { OnOk result (GoesOn pool.old.history pool.new.history (Command.Read ds.now object leaf ∷ [])) }
+    ensures went_on { IsErrOf result BayFault.Failed → GoesPart pool.old.history pool.new.history (Command.Read ds.now object leaf ∷ []) }
     ensures sizes { map D.size devices.new ≡ map D.size devices.old }
     ensures cause { HaveCause (map D.faults devices.old) (map D.faults devices.new) result }
 {
@@ -285,7 +79,7 @@ fn end_read(pool: &mut Pool, by: u8, plan: ReadPlan, got: Option<&[u8]>) -> Resu
     requires ready { IsReady pool.old }
     requires got { IsGotFor plan (option_copied got) }
     ensures ready { OnOk result (IsReady pool.new) }
-    ensures goes_on { OnOk result (GoesOn pool.old.history pool.new.history) }
+    ensures goes_on { OnOk result (GoesOn pool.old.history pool.new.history []) }
     ensures memory { OnErr result (result ≡ Err BayFault.Memory) }
 {
     let Ok(_) = pool.read_end(by, plan, got) else {
@@ -303,26 +97,34 @@ pub fn run_line<D: Device>(
     good: &mut [u8],
     buf: &mut [u8],
 ) -> Result<(), BayFault>
+    requires later { IsLater line.now.command }
     requires ready { IsReady pool.old }
     requires width { length devices.old ≤ 4 }
     requires good { length good.old ≡ 131072 }
     requires buf { length buf.old ≡ 131072 }
     ensures ready { OnOk result (IsReady pool.new) }
-    ensures goes_on { OnOk result (GoesOn pool.old.history pool.new.history) }
-    ensures went_on { IsErrOf result BayFault.Failed → GoesOn pool.old.history pool.new.history }
+    ensures goes_on { OnOk result (GoesOn pool.old.history pool.new.history (line.now.command ∷ [])) }
+    ensures went_on { IsErrOf result BayFault.Failed → GoesPart pool.old.history pool.new.history (line.now.command ∷ []) }
     ensures sizes { map D.size devices.new ≡ map D.size devices.old }
     ensures cause { HaveCause (map D.faults devices.old) (map D.faults devices.new) result }
 {
+    let by = line.by;
     match &line.command {
-        Command::Fs { .. } | Command::Scrub => command(pool, line),
-        Command::Make { size, .. } if *size <= 131_072 => command(pool, line),
-        Command::Sync => match sync(pool, devices) {
-            Ok(()) => end_line(pool, line.by, &line.command, Reply::Nothing),
-            Err(fault) => Err(fault),
-        },
-        Command::Finish => finish(alloc, pool, devices, line.by, good, buf),
-        Command::Read { ds, object, leaf } => read(pool, devices, line.by, ds, *object, *leaf, buf),
-        _ => end_line(pool, line.by, &line.command, Reply::Nothing),
+        Command::Fs { .. }
+        | Command::Scrub
+        | Command::Make { .. }
+        | Command::Write { .. }
+        | Command::Status => command(pool, line),
+        Command::Sync => end_sync(pool, devices, by),
+        Command::Walk { turns } => walk(alloc, pool, by, *turns),
+        Command::Hold { vdev, pieces } => hold(alloc, pool, by, *vdev, *pieces),
+        Command::Issue { vdev, pieces } => {
+            issue(alloc, pool, devices, by, *vdev, *pieces, good, buf)
+        }
+        Command::Land => land(alloc, pool, devices, by, good, buf),
+        Command::Finish => finish(alloc, pool, devices, by, good, buf),
+        Command::Read { ds, object, leaf } => read(pool, devices, by, ds, *object, *leaf, buf),
+        _ => unreachable!(),
     }
 }
 
@@ -331,11 +133,27 @@ fn command(pool: &mut Pool, line: &Line) -> Result<(), BayFault>
     requires command { IsPoolCommand line.now.command }
     requires ready { IsReady pool.old }
     ensures ready { OnOk result (IsReady pool.new) }
-    ensures goes_on { OnOk result (GoesOn pool.old.history pool.new.history) }
+    ensures goes_on { OnOk result (GoesOn pool.old.history pool.new.history (line.now.command ∷ [])) }
     ensures memory { OnErr result (result ≡ Err BayFault.Memory) }
 {
     let Ok(_) = pool.command(line.by, &line.command) else {
         return Err(BayFault::Memory);
     };
     Ok(())
+}
+
+/// Commits what is staged, as a line.
+fn end_sync<D: Device>(pool: &mut Pool, devices: &mut [D], by: u8) -> Result<(), BayFault>
+    requires ready { IsReady pool.old }
+    ensures ready { OnOk result (IsReady pool.new) }
+    ensures goes_on { OnOk result (GoesOn pool.old.history pool.new.history (Command.Sync ∷ [])) }
+    ensures went_on { IsErrOf result BayFault.Failed → GoesOn pool.old.history pool.new.history [] }
+    ensures sizes { map D.size devices.new ≡ map D.size devices.old }
+    ensures cause { HaveCause (map D.faults devices.old) (map D.faults devices.new) result }
+{
+    match sync(pool, devices) {
+        Ok(()) => {}
+        Err(fault) => return Err(fault),
+    }
+    end_line(pool, by, &Command::Sync, Reply::Nothing)
 }

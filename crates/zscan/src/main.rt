@@ -6,12 +6,16 @@
 //! Promise: the clauses of `step::run_step`, one for each way in which a run can end. `main` gives it the real
 //! outside: standard input and output, and image files, which tell nothing of what they hold (`files`).
 //!
-//! Where to change what: a new form of the command line in `step`; what a line does in `lines`; how the images
-//! of a pool are tested in `images`; what is read, checked and written on the devices in `mirror`.
+//! Where to change what: a new form of the command line in `step`; what a line does in `lines`, and of those of a scan in
+//! `turns`, `batches`, `landing` and `finishing`; how the images of a pool are tested in `images`; what is read, checked and
+//! written on the devices in `mirror`.
 #![tactic(auto)]
 
+mod batches;
 mod files;
+mod finishing;
 mod images;
+mod landing;
 mod lines;
 mod mirror;
 mod session;
@@ -19,6 +23,7 @@ mod step;
 mod stop;
 #[cfg(test)]
 mod tests;
+mod turns;
 
 use files::{ImageFiles, Input, Output};
 use std::alloc::AllocError;

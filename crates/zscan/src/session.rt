@@ -1,18 +1,23 @@
 //! Sessions: the lines of a script over the images that were fetched, one after another, with each reply put before
 //! the next line is run.
 
-ghost use Rattle.std.specs.Prelude.{◌≡◌, ◌≢◌, ◌≤◌, ◌<◌, ◌+◌, ◌*◌, ◌%◌, ◌++◌, ◌⊎◌, ℕ, List, Option, None, Some, true, false, length, map, option_map, flat_map, OnOk, OnErr, IfOk, IfSome, IsSome, IsErrOf, Err, slice_index};
+ghost use Rattle.std.specs.Prelude.{◌≡◌, ◌≢◌, ◌≤◌, ◌++◌, ◌∷◌, [], ◌⊎◌, ℕ, List, Option, None, Some, false, All, length, map, option_map, OnOk, OnErr, IfOk, IfSome, IsSome, IsErrOf, Err};
 ghost use Rattle.zs_core.specs.History.{text_of, IsHistory};
+ghost use Rattle.zs_core.specs.Safe.{IsSafe};
 ghost use Rattle.zs_io.specs.Faults.{Rose};
 ghost use Rattle.zs_script.specs.Texts.{reply_text};
 ghost use Rattle.zscan.specs.Mirror.{HaveCause, SomeRose};
 ghost use Rattle.zscan.specs.Images.{AreFresh, HasFailed};
-ghost use Rattle.zscan.specs.Session.{IsInRange, IsReady, GoesOn, HasReason, HasSinkReason, IsFitFor, IsUnfitFor, AreFitFor, AreUnfitFor};
+ghost use Rattle.zs_script.specs.Lines.{IsFirst, IsLater, IsScript};
+ghost use Rattle.zs_core.specs.Commands.{commands_of};
+ghost use Rattle.zscan.specs.Session.{IsReady, GoesOn, GoesPart, AreFirst, commands_in, HasReason, HasSinkReason, IsFitFor, IsUnfitFor, AreFitFor, AreUnfitFor};
 ghost use Rattle.zscan.specs.Puts.{Puts, PutsPart, PutsRefusal, refused_line};
 ghost use Rattle.zscan.specs.Ending.{IsSessionStatus, PutsRun, history_in, devices_in};
 
+use crate::batches::BLOCK_BYTES;
+use crate::finishing::commit;
 use crate::images::{ImageFault, test_images};
-use crate::lines::{BLOCK_BYTES, commit, run_line};
+use crate::lines::run_line;
 use crate::stop::Stop;
 use std::alloc::{AllocError, Global};
 use zs_core::{Event, Pool, Shape, Stage};
@@ -83,11 +88,14 @@ fn take_line<D: Device, K: Sink>(
     good: &mut [u8],
     buf: &mut [u8],
 ) -> Result<(), Stop>
+    requires later { IsLater line.now.command }
     requires ready { IsReady pool.old }
     requires width { length devices.old ≤ 4 }
     requires good { length good.old ≡ 131072 }
     requires buf { length buf.old ≡ 131072 }
     ensures ready { OnOk result (IsReady pool.new) }
+    ensures goes_on { OnOk result (GoesOn pool.old.history pool.new.history (line.now.command ∷ [])) }
+    ensures went_on { OnErr result (result ≢ Err Stop.Memory → GoesPart pool.old.history pool.new.history (line.now.command ∷ [])) }
     ensures told { OnOk result ((start : Option (List ℕ)) → K.told out.old ≡ option_map (λ bytes. bytes ++ text_of pool.old.history) start → K.told out.new ≡ option_map (λ bytes. bytes ++ text_of pool.new.history) start) }
     ensures part { OnErr result (result ≢ Err Stop.Memory → (start : Option (List ℕ)) → K.told out.old ≡ option_map (λ bytes. bytes ++ text_of pool.old.history) start → PutsPart (text_of pool.new.history) start (K.told out.new)) }
     ensures run { IsErrOf result Stop.Memory → (start : Option (List ℕ)) → K.told out.old ≡ option_map (λ bytes. bytes ++ text_of pool.old.history) start → PutsRun start (K.told out.new) }
@@ -118,10 +126,13 @@ fn run_lines<D: Device, K: Sink>(
     good: &mut [u8],
     buf: &mut [u8],
 ) -> Result<(), Stop>
+    requires later { All (λ line. IsLater line.command) lines.now }
     requires ready { IsReady pool.old }
     requires width { length devices.old ≤ 4 }
     requires good { length good.old ≡ 131072 }
     requires buf { length buf.old ≡ 131072 }
+    ensures goes_on { OnOk result (GoesOn pool.old.history pool.new.history (commands_in lines.now)) }
+    ensures went_on { OnErr result (result ≢ Err Stop.Memory → GoesPart pool.old.history pool.new.history (commands_in lines.now)) }
     ensures told { OnOk result (K.told out.new ≡ option_map (λ bytes. bytes ++ text_of pool.new.history) (K.told out.old)) }
     ensures part { result ≢ Err Stop.Memory → PutsPart (text_of pool.new.history) (K.told out.old) (K.told out.new) }
     ensures run { IsErrOf result Stop.Memory → PutsRun (K.told out.old) (K.told out.new) }
@@ -150,9 +161,12 @@ fn run_pool<D: Device, K: Sink>(
     lines: &[Line],
     out: &mut K,
 ) -> Result<(), Stop>
+    requires later { All (λ line. IsLater line.command) lines.now }
     requires writing { pool.old.core.state.stage ≡ Stage.Writing }
     requires up { pool.old.core.state.suspended ≡ false }
     requires width { length devices.old ≤ 4 }
+    ensures goes_on { OnOk result (GoesOn pool.old.history pool.new.history (commands_in lines.now)) }
+    ensures went_on { OnErr result (result ≢ Err Stop.Memory → GoesPart pool.old.history pool.new.history (commands_in lines.now)) }
     ensures told { OnOk result (K.told out.new ≡ option_map (λ bytes. bytes ++ text_of pool.new.history) (K.told out.old)) }
     ensures part { result ≢ Err Stop.Memory → PutsPart (text_of pool.new.history) (K.told out.old) (K.told out.new) }
     ensures run { IsErrOf result Stop.Memory → PutsRun (K.told out.old) (K.told out.new) }
@@ -175,29 +189,14 @@ fn run_pool<D: Device, K: Sink>(
     }
 }
 
-/// Tests whether the numbers of a `pool` line are in their ranges. A script that was read has no others, which is
-/// tested here, and not proved yet.
-fn test_range(width: u8, limit: u32, every: u32, blocks: u32) -> Result<(), ImageFault>
-    ensures range { OnOk result (IsInRange width limit every blocks) }
-    ensures memory { OnErr result (result ≡ Err ImageFault.Memory) }
-{
-    let devices = 1 <= width && width <= 4;
-    let waiting = 1 <= limit && limit <= 65_536;
-    let commits = 1 <= every && every <= 1000;
-    let room = 64 <= blocks && blocks <= 65_536 && blocks % 4 == 0;
-    if devices && waiting && commits && room {
-        Ok(())
-    } else {
-        Err(ImageFault::Memory)
-    }
-}
-
 /// Makes the pool of a `pool` line, if the images fit it.
 fn make_pool<D: Device>(
     alloc: Global,
     command: &Command,
     devices: &mut [D],
 ) -> Result<Pool, ImageFault>
+    requires first { IsFirst command.now }
+    ensures made { IfOk result (λ pool. commands_of pool.history ≡ command.now ∷ []) }
     ensures writing { IfOk result (λ pool. pool.core.state.stage ≡ Stage.Writing) }
     ensures up { IfOk result (λ pool. pool.core.state.suspended ≡ false) }
     ensures width { OnOk result (length devices.old ≤ 4) }
@@ -216,12 +215,8 @@ fn make_pool<D: Device>(
         blocks,
     } = command
     else {
-        return Err(ImageFault::Memory);
+        unreachable!()
     };
-    match test_range(*width, *limit, *every, *blocks) {
-        Ok(()) => {}
-        Err(fault) => return Err(fault),
-    }
     let sectors = match test_images(alloc, devices, *width, *blocks) {
         Ok(sectors) => Seq::from_vec(sectors),
         Err(fault) => return Err(fault),
@@ -293,11 +288,15 @@ pub fn step_session<D: Device + Drop, K: Sink>(
     devices: Vec<D>,
     out: &mut K,
 ) -> Ended<D>
-    requires { AreFresh (map D.faults devices.items) }
+    requires script { IsScript lines.now }
+    requires fresh { AreFresh (map D.faults devices.items) }
     ensures status { IsSessionStatus result.status }
     ensures text { result.status ≡ 0 → K.told out.new ≡ option_map (λ bytes. bytes ++ text_of (history_in result.session)) (K.told out.old) }
+    ensures lines { result.status ≡ 0 → commands_of (history_in result.session) ≡ commands_in lines.now }
+    ensures lines_cut { IsSome result.session → result.status ≢ 7 → AreFirst (commands_of (history_in result.session)) (commands_in lines.now) }
     ensures session { result.status ≡ 0 → IsSome result.session }
     ensures history { IfSome result.session (λ s. IsHistory s.pool.history s.pool.core.state) }
+    ensures safe { IfSome result.session (λ s. s.pool.core.state.suspended ≡ false → IsSafe s.pool.core) }
     ensures part { IsSome result.session → result.status ≢ 7 → PutsPart (text_of (history_in result.session)) (K.told out.old) (K.told out.new) }
     ensures run { IsSome result.session → result.status ≡ 7 → PutsRun (K.told out.old) (K.told out.new) }
     ensures fit { IsSome result.session → AreFitFor lines.now (map D.size devices.items) (map D.told devices.items) }
@@ -312,7 +311,7 @@ pub fn step_session<D: Device + Drop, K: Sink>(
 {
     let mut devices = devices;
     let Some((first, others)) = lines.split_first() else {
-        return Ended::without(7, devices);
+        unreachable!()
     };
     match make_pool(alloc, &first.command, devices.as_mut_slice()) {
         Ok(pool) => run_session(alloc, Session { pool, devices }, others, out),
@@ -361,6 +360,7 @@ fn run_session<D: Device + Drop, K: Sink>(
     lines: &[Line],
     out: &mut K,
 ) -> Ended<D>
+    requires later { All (λ line. IsLater line.command) lines.now }
     requires writing { session.pool.core.state.stage ≡ Stage.Writing }
     requires up { session.pool.core.state.suspended ≡ false }
     requires width { length session.devices.items ≤ 4 }
@@ -370,8 +370,11 @@ fn run_session<D: Device + Drop, K: Sink>(
     ensures text { result.status ≡ 0 → K.told out.new ≡ option_map (λ bytes. bytes ++ text_of (history_in result.session)) (K.told out.old) }
     ensures part { result.status ≢ 7 → PutsPart (text_of (history_in result.session)) (K.told out.old) (K.told out.new) }
     ensures run { result.status ≡ 7 → PutsRun (K.told out.old) (K.told out.new) }
+    ensures goes_on { result.status ≡ 0 → GoesOn session.pool.history (history_in result.session) (commands_in lines.now) }
+    ensures went_on { result.status ≢ 7 → GoesPart session.pool.history (history_in result.session) (commands_in lines.now) }
     ensures session { IsSome result.session }
     ensures history { IfSome result.session (λ s. IsHistory s.pool.history s.pool.core.state) }
+    ensures safe { IfSome result.session (λ s. s.pool.core.state.suspended ≡ false → IsSafe s.pool.core) }
     ensures failed { result.status ≡ 4 → HasFailed (map D.faults (devices_in result.session result.devices.items)) }
     ensures unfailed { result.status ≢ 4 → result.status ≢ 6 → result.status ≢ 7 → AreFresh (map D.faults (devices_in result.session result.devices.items)) }
     ensures sink { result.status ≡ 6 → Rose (K.faults out.old) (K.faults out.new) }

@@ -3,10 +3,12 @@
 ghost use Rattle.std.specs.Prelude.{◌≡◌, ◌≢◌, ◌≤◌, ◌<◌, ◌+◌, ◌-◌, ◌++◌, [], ◌⊎◌, ℕ, List, Option, None, Some, true, false, length, map, drop, take, option_map, OnOk, OnErr, IfOk, IfSome, IfNone, IsSome, IsErrOf, string_bytes, codes};
 ghost use Rattle.std.specs.List.{list_all};
 ghost use Rattle.zs_core.specs.History.{text_of, IsHistory};
+ghost use Rattle.zs_core.specs.Safe.{IsSafe};
 ghost use Rattle.zs_io.specs.Faults.{Rose};
 ghost use Rattle.zs_io.specs.Told.{Told};
 ghost use Rattle.zscan.specs.Images.{AreFresh, HasFailed};
-ghost use Rattle.zscan.specs.Session.{AreFitFor, AreUnfitFor};
+ghost use Rattle.zs_core.specs.Commands.{commands_of};
+ghost use Rattle.zscan.specs.Session.{AreFitFor, AreUnfitFor, AreFirst, commands_in};
 ghost use Rattle.zscan.specs.Ending.{PutsRun, history_in, devices_in};
 ghost use Rattle.zscan.specs.Puts.{Puts, PutsPart, PutsRefusal, fault_line, refused_line};
 ghost use Rattle.zscan.specs.Step.{is_image, are_images, is_step, read_of, has_fault, fault_text, lines_in};
@@ -190,9 +192,12 @@ pub fn run_step<B: Bay, S: Source, K: Sink>(
     ensures text { result.status ≡ 0 → K.told out.new ≡ option_map (λ bytes. bytes ++ text_of (history_in result.session)) (K.told out.old) }
     ensures part { IsSome result.session → result.status ≢ 7 → PutsPart (text_of (history_in result.session)) (K.told out.old) (K.told out.new) }
     ensures run { IsSome result.session → result.status ≡ 7 → PutsRun (K.told out.old) (K.told out.new) }
+    ensures lines { result.status ≡ 0 → Told (S.left src.old) (λ script. commands_of (history_in result.session) ≡ commands_in (lines_in script)) }
+    ensures lines_cut { IsSome result.session → result.status ≢ 7 → Told (S.left src.old) (λ script. AreFirst (commands_of (history_in result.session)) (commands_in (lines_in script))) }
     ensures session { result.status ≡ 0 → IsSome result.session }
     ensures statuses { result.status ≤ 7 }
     ensures history { IfSome result.session (λ s. IsHistory s.pool.history s.pool.core.state) }
+    ensures safe { IfSome result.session (λ s. s.pool.core.state.suspended ≡ false → IsSafe s.pool.core) }
 {
     let mut devices = Vec::new(alloc);
     if !is_step(words) {

@@ -6,4 +6,6 @@ mod images;
 mod refusals;
 mod repairs;
 mod rows;
+mod scans;
+mod statuses;
 mod world;

@@ -17,6 +17,9 @@ fn refused_commands_tell_why_and_the_run_goes_on(rt: HostRuntime) -> Result<(), 
         ("read a 1 1", "refused PastEnd"),
         ("make a 2 1 131072 6", "refused NoSpace"),
         ("finish", "refused NoScan"),
+        ("write z 1 0 6", "refused NoDataset"),
+        ("write a 2 0 6", "refused NoObject"),
+        ("write a 1 1 6", "refused PastEnd"),
     ];
     for (line, reply) in cases {
         let ran = run_behind(alloc, line)?;

@@ -80,6 +80,29 @@ fn a_faulty_script_is_told_and_touches_no_image(rt: HostRuntime) -> Result<(), F
     Ok(())
 }
 
+#[test]
+fn numbers_out_of_their_ranges_are_faults(rt: HostRuntime) -> Result<(), Fail> {
+    for line in [
+        "walk 0",
+        "walk 1000001",
+        "hold 0 0",
+        "hold 0 1025",
+        "issue 256 1",
+        "issue 0 0",
+    ] {
+        let script = format!(in rt.alloc(); "pool 7 2 8 4 64\n{line}\n")?;
+        let (status, put, whole) = faulty(rt.alloc(), script.as_str())?;
+        assert_eq!(rt;
+            put.as_slice(),
+            b"script 2 Number\n".as_slice(),
+            "at {line}"
+        );
+        assert_eq!(rt; status, 2, "at {line}");
+        assert!(rt; whole, "at {line}");
+    }
+    Ok(())
+}
+
 /// How a run without an image ends whose words are these, and what it puts.
 fn run_words(alloc: Global, words: &[String]) -> Result<(u8, Vec<u8>), AllocError> {
     let mut source = source(alloc, BASE)?;

@@ -1,4 +1,4 @@
-use Rattle.std.proofs.Common.{◌≡◌, ◌∙◌, ℕ, List, map, subst, length, rules, arith}
+use Rattle.std.proofs.Common.{◌≡◌, ℕ, List, map, subst, length, rules, arith}
 use Rattle.std.proofs.lemmas.List.{length-map}
 use Rattle.zscan.specs.Images.{IsSizeFault}
 use Rattle.zscan.proofs.Refusals.{sized, same_error}

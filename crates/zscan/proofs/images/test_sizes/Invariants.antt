@@ -1,4 +1,4 @@
-use Rattle.std.proofs.Common.{◌≡◌, ℕ, ◌<◌, ◌≤◌, ◌/◌, map, slice_index}
+use Rattle.std.proofs.Common.{ℕ, ◌<◌, ◌≤◌, ◌/◌, map, slice_index}
 use Rattle.zscan.specs.Images.{least_sectors, most_sectors}
 use Rattle.zscan.proofs.images.test_sizes.Given as goal
 

@@ -1,7 +1,4 @@
-use Rattle.std.proofs.Common.{ap, sym, ◌∙◌, ◌*◌, map, set, option_map, None}
-use Rattle.std.proofs.lemmas.List.{map-set, get_or-map}
 use Rattle.std.proofs.Math.Seq.{map-set_same}
-use Rattle.zs_io.specs.Told.{over}
 use Rattle.zscan.proofs.Devices.{done, refused}
 use Rattle.zscan.proofs.mirror.sync_copy.Goals as goal
 

@@ -1,4 +1,4 @@
-use Rattle.std.proofs.Common.{◌≡◌, ◌<◌, ◌∙◌, map, option_map, length, None, arith}
+use Rattle.std.proofs.Common.{◌<◌, ◌∙◌, map, option_map, length, None, arith}
 use Rattle.std.proofs.lemmas.List.{length-map}
 use Rattle.zs_io.specs.Told.{over}
 use Rattle.zscan.proofs.Devices.{next_changed}

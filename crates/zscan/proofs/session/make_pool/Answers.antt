@@ -4,7 +4,7 @@ use Rattle.zscan.specs.Session.{IsUnfitFor}
 use Rattle.zscan.proofs.Refusals.{same_error}
 use Rattle.zscan.proofs.session.make_pool.Goals as goal
 
-pub returns-in-Err-test_images-clause-unfit : goal.returns-in-Err-test_images-clause-unfit
-returns-in-Err-test_images-clause-unfit g c fault is =
+pub returns-in-Err-clause-unfit : goal.returns-in-Err-clause-unfit
+returns-in-Err-clause-unfit g c fault is =
     subst (λ (line : Command). IsUnfitFor line (map g.D.Device.size c.args.devices.now) (map g.D.Device.told c.args.devices.now) fault) (sym c.in-Pool.is)
-    (c.in-Err-test_images.ensures.unfit fault (same_error is))
+    (c.in-Err.ensures.unfit fault (same_error is))

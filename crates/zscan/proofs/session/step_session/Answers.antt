@@ -1,16 +1,19 @@
 use Rattle.std.proofs.Common.{sym, ◌∙◌}
 use Rattle.zscan.proofs.Backs.{fresh_back}
 use Rattle.zscan.proofs.Refusals.{refusal_none}
+use Rattle.zscan.specs.Ending.{history_in}
+use Rattle.zscan.proofs.Commands.{first_commands}
 use Rattle.zscan.proofs.session.step_session.Goals as goal
 
 pub run_session-requires-clause-fresh : goal.run_session-requires-clause-fresh
-run_session-requires-clause-fresh g c = fresh_back _ _ _ _ _ c.as_mut_slice.ensures.value c.as_mut_slice.ensures.len (c.make_pool.ensures.counts (λ h. let no_way = sym c.in-Ok.is ∙ h in cc)) c.requires
+run_session-requires-clause-fresh g c = fresh_back _ _ _ _ _ c.as_mut_slice.ensures.value c.as_mut_slice.ensures.len (c.make_pool.ensures.counts (λ h. let no_way = sym c.in-Ok.is ∙ h in cc)) c.requires.fresh
 
 pub returns-in-Err-Unfit-clause-unfailed : goal.returns-in-Err-Unfit-clause-unfailed
-returns-in-Err-Unfit-clause-unfailed g c = λ four six seven. rw (c.refuse.ensures.session, c.refuse.ensures.devices) (fresh_back _ _ _ _ _ c.as_mut_slice.ensures.value c.as_mut_slice.ensures.len (c.make_pool.ensures.counts (λ h. let no_way = sym c.in-Err-Unfit.is ∙ h in cc)) c.requires)
-
-pub returns-in_default-clause-cut : goal.returns-in_default-clause-cut
-returns-in_default-clause-cut g c none = refusal_none (g.K.Sink.told c.args.out.now)
+returns-in-Err-Unfit-clause-unfailed g c = λ four six seven. rw (c.refuse.ensures.session, c.refuse.ensures.devices) (fresh_back _ _ _ _ _ c.as_mut_slice.ensures.value c.as_mut_slice.ensures.len (c.make_pool.ensures.counts (λ h. let no_way = sym c.in-Err-Unfit.is ∙ h in cc)) c.requires.fresh)
 
 pub returns-in-Err-Memory-clause-cut : goal.returns-in-Err-Memory-clause-cut
 returns-in-Err-Memory-clause-cut g c none = refusal_none (g.K.Sink.told c.args.out.now)
+
+pub returns-in-Ok-clause-lines_cut : goal.returns-in-Ok-clause-lines_cut
+returns-in-Ok-clause-lines_cut g c some seven =
+    first_commands c.in-Ok.pool.history (history_in c.run_session.result.session) c.in-Some.first.now c.in-Some.others.now c.args.lines.now c.in-Some.ensures.cases.0 c.in-Ok.ensures.made (c.run_session.ensures.went_on seven)

@@ -1,7 +1,9 @@
 use Rattle.std.proofs.Common.{◌≡◌, ℕ, ◌-◌, List, length, map, subst, sym, ◌∙◌, arith}
 use Rattle.std.proofs.lemmas.Grind.{common_steps}
 use Rattle.zs_script.specs.declared.command.Line.{Line}
-use Rattle.zscan.specs.Session.{AreFitFor, AreUnfitFor}
+use Rattle.zs_core.specs.Commands.{commands_of}
+use Rattle.zscan.specs.Ending.{history_in}
+use Rattle.zscan.specs.Session.{AreFitFor, AreUnfitFor, AreFirst, commands_in}
 use Rattle.zscan.specs.Puts.{Puts, PutsPart}
 use Rattle.zscan.specs.Step.{lines_in}
 use Rattle.zscan.proofs.Refusals.{refusal_none}
@@ -75,3 +77,13 @@ returns-in-Ok-fetch_images-clause-unfit g c status script told =
           (c.as_slice-in-Ok-fetch_images.ensures.value ∙ sym read) why.1,
       why.2,
     )
+
+pub returns-in-Ok-fetch_images-clause-lines : goal.returns-in-Ok-fetch_images-clause-lines
+returns-in-Ok-fetch_images-clause-lines g c status script told =
+    let read : lines_in script ≡ c.in-Ok-parse.lines.items = lines_are c.as_slice.result.now script c.in-Ok-parse.lines.items (c.as_slice.ensures.value ∙ c.in-Ok.ensures.script script told) c.in-Ok-parse.ensures.exact in
+    subst (λ (lines : List Line). commands_of (history_in c.step_session.result.session) ≡ commands_in lines) (c.as_slice-in-Ok-fetch_images.ensures.value ∙ sym read) (c.step_session.ensures.lines status)
+
+pub returns-in-Ok-fetch_images-clause-lines_cut : goal.returns-in-Ok-fetch_images-clause-lines_cut
+returns-in-Ok-fetch_images-clause-lines_cut g c some seven script told =
+    let read : lines_in script ≡ c.in-Ok-parse.lines.items = lines_are c.as_slice.result.now script c.in-Ok-parse.lines.items (c.as_slice.ensures.value ∙ c.in-Ok.ensures.script script told) c.in-Ok-parse.ensures.exact in
+    subst (λ (lines : List Line). AreFirst (commands_of (history_in c.step_session.result.session)) (commands_in lines)) (c.as_slice-in-Ok-fetch_images.ensures.value ∙ sym read) (c.step_session.ensures.lines_cut some seven)

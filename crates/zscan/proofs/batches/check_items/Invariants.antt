@@ -1,9 +1,10 @@
-use Rattle.std.proofs.Common.{◌≡◌, map, length}
-use Rattle.zscan.proofs.lines.check_items.Given as goal
+use Rattle.std.proofs.Common.{◌≡◌, map, take}
+use Rattle.zs_scan.specs.Steps.{AreOf}
+use Rattle.zscan.proofs.batches.check_items.Given as goal
 
 abbrev pub invariant-loop-item : goal.invariant-loop-item
 invariant-loop-item g l = record {
-  count : length l.entries.items ≡ l.item-index;
+  are_of : AreOf (take l.item-index l.items) l.entries.items;
   sizes : map g.D.Device.size l.devices ≡ map g.D.Device.size l.initial.devices;
   counts : map g.D.Device.faults l.devices ≡ map g.D.Device.faults l.initial.devices;
 }

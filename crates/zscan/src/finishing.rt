@@ -1,0 +1,332 @@
+//! Committing what is staged, and the line that brings a scan to its end.
+
+ghost use Rattle.std.specs.Prelude.{◌≡◌, ◌≤◌, ◌<◌, ◌+◌, ◌⊎◌, ◌∷◌, [], ℕ, Ok, None, false, true, length, map, min, OnOk, OnErr, IfOk, IfSome, IsErrOf, Err};
+ghost use Rattle.zs_ids.specs.declared.limits.TheConstants.{TXG_END};
+ghost use Rattle.zs_phys.specs.Turn.{IsWalking};
+ghost use Rattle.zs_phys.specs.declared.phys.At.TheVariants.{Nowhere};
+ghost use Rattle.zs_scan.specs.Steps.{IsComplete};
+ghost use Rattle.zs_walk.specs.Left.{turns_left};
+ghost use Rattle.zs_core.specs.Machine.{is_at_work};
+ghost use Rattle.zs_core.specs.Steps.{LineStep};
+ghost use Rattle.zscan.specs.Mirror.{HaveCause};
+ghost use Rattle.zscan.specs.Session.{IsUp, IsReady, GoesOn};
+ghost use Rattle.zscan.specs.Batches.{GoesOnScanning, StandsStill};
+
+use crate::batches::judge;
+use crate::landing::land_next;
+use crate::lines::end_line;
+use crate::mirror::put_blocks;
+use crate::turns::{Turned, turn};
+use std::alloc::Global;
+use zs_core::{Pool, PoolFault, Stage};
+use zs_io::{BayFault, Device};
+use zs_script::{Command, Refusal, Reply};
+
+/// How many pieces `finish` takes at once.
+const BATCH: u32 = 32;
+
+/// Commits what is staged: writes its blocks, and applies it. A scan that is complete is at its end then, unless no
+/// transaction group is left.
+pub fn sync<D: Device>(pool: &mut Pool, devices: &mut [D]) -> Result<(), BayFault>
+    requires up { IsUp pool.old }
+    ensures ready { OnOk result (IsReady pool.new) }
+    ensures ends { OnOk result (IsComplete pool.old.core.scan → (is_at_work pool.new.core.state.scan ≡ false) ⊎ (pool.new.core.state.open_txg.txg ≡ TXG_END)) }
+    ensures goes_on { OnOk result (GoesOn pool.old.history pool.new.history []) }
+    ensures went_on { IsErrOf result BayFault.Failed → GoesOn pool.old.history pool.new.history [] }
+    ensures sizes { map D.size devices.new ≡ map D.size devices.old }
+    ensures cause { HaveCause (map D.faults devices.old) (map D.faults devices.new) result }
+{
+    let staged = match pool.begin_sync() {
+        Ok(staged) => staged,
+        Err(PoolFault::Refused) => return Ok(()),
+        Err(PoolFault::Memory) => return Err(BayFault::Memory),
+    };
+    match put_blocks(devices, staged.blocks.as_slice()) {
+        Ok(()) => {}
+        Err(fault) => return Err(fault),
+    }
+    commit(pool)
+}
+
+/// Applies what a sync has written, and commits it. Fails only for want of memory.
+pub fn commit(pool: &mut Pool) -> Result<(), BayFault>
+    requires writing { pool.old.core.state.stage ≡ Stage.Writing }
+    requires up { pool.old.core.state.suspended ≡ false }
+    ensures ready { OnOk result (IsReady pool.new) }
+    ensures ends { OnOk result (IsComplete pool.old.core.scan → is_at_work pool.new.core.state.scan ≡ false) }
+    ensures goes_on { OnOk result (GoesOn pool.old.history pool.new.history []) }
+    ensures memory { OnErr result (result ≡ Err BayFault.Memory) }
+{
+    let Ok(()) = pool.end_data() else {
+        return Err(BayFault::Memory);
+    };
+    let Ok(()) = pool.committed() else {
+        return Err(BayFault::Memory);
+    };
+    Ok(())
+}
+
+/// Why a scan can't be brought to its end, if it can't: none runs, or it is paused.
+fn refusal(pool: &Pool) -> Option<Refusal>
+    ensures refused { IfSome result (λ why. LineStep pool.now.core.state Command.Finish (Reply.Refused why)) }
+    ensures runs { result ≡ None → IsWalking pool.now.core.scan.run }
+{
+    if !pool.is_scanning() {
+        return Some(Refusal::NoScan);
+    }
+    if pool.is_paused() {
+        return Some(Refusal::Paused);
+    }
+    None
+}
+
+/// Checks all batches in flight.
+fn land_flights<D: Device>(
+    alloc: Global,
+    pool: &mut Pool,
+    devices: &mut [D],
+    by: u8,
+    good: &mut [u8],
+    buf: &mut [u8],
+) -> Result<(), BayFault>
+    requires up { IsUp pool.old }
+    requires width { length devices.old ≤ 4 }
+    requires good { length good.old ≡ 131072 }
+    requires buf { length buf.old ≡ 131072 }
+    ensures all { OnOk result (pool.new.core.scan.flight ≡ []) }
+    ensures runs { OnOk result (IsWalking pool.old.core.scan.run → IsWalking pool.new.core.scan.run) }
+    ensures up { OnOk result (IsUp pool.new) }
+    ensures goes_on { OnOk result (GoesOn pool.old.history pool.new.history []) }
+    ensures went_on { IsErrOf result BayFault.Failed → GoesOn pool.old.history pool.new.history [] }
+    ensures sizes { map D.size devices.new ≡ map D.size devices.old }
+    ensures cause { HaveCause (map D.faults devices.old) (map D.faults devices.new) result }
+{
+    loop {
+        match land_next(alloc, pool, devices, by, good, buf) {
+            Ok(Some(_)) => {}
+            Ok(None) => return Ok(()),
+            Err(fault) => return Err(fault),
+        }
+    }
+}
+
+/// Makes turns of the walk until none is left, or the next one is refused as full; whether it was refused. One that was
+/// refused at once has pieces that wait. Fails only for want of memory.
+fn walk_on(pool: &mut Pool, by: u8) -> Result<bool, BayFault>
+    requires up { IsUp pool.old }
+    requires runs { IsWalking pool.old.core.scan.run }
+    requires landed { pool.old.core.scan.flight ≡ [] }
+    ensures runs { OnOk result (IsWalking pool.new.core.scan.run) }
+    ensures landed { OnOk result (pool.new.core.scan.flight ≡ []) }
+    ensures walked { IfOk result (λ full. full ≡ false → (pool.new.core.scan.run.at ≡ Nowhere) × (pool.new.core.scan.run.todo ≡ [])) }
+    ensures fewer { IfOk result (λ full. full ≡ true → turns_left pool.new.core.state.graph pool.new.core.scan.run < turns_left pool.old.core.state.graph pool.old.core.scan.run + min 1 (length pool.old.core.scan.waiting)) }
+    ensures up { OnOk result (IsUp pool.new) }
+    ensures goes_on { OnOk result (GoesOn pool.old.history pool.new.history []) }
+    ensures memory { OnErr result (result ≡ Err BayFault.Memory) }
+{
+    pool.facts();
+    loop {
+        match turn(pool, by) {
+            Ok(Turned::Made) => {}
+            Ok(Turned::Nothing) => return Ok(false),
+            Ok(Turned::Full) => return Ok(true),
+            Err(fault) => return Err(fault),
+        }
+    }
+}
+
+/// Takes a batch of what waits and checks it; whether any waited.
+fn check_next<D: Device>(
+    alloc: Global,
+    pool: &mut Pool,
+    devices: &mut [D],
+    by: u8,
+    good: &mut [u8],
+    buf: &mut [u8],
+) -> Result<bool, BayFault>
+    requires up { IsUp pool.old }
+    requires width { length devices.old ≤ 4 }
+    requires good { length good.old ≡ 131072 }
+    requires buf { length buf.old ≡ 131072 }
+    ensures fewer { IfOk result (λ some. some ≡ true → length pool.new.core.scan.waiting < length pool.old.core.scan.waiting) }
+    ensures none { IfOk result (λ some. some ≡ false → pool.new.core.scan.waiting ≡ []) }
+    ensures still { OnOk result (StandsStill pool.old.core pool.new.core) }
+    ensures up { OnOk result (IsUp pool.new) }
+    ensures goes_on { OnOk result (GoesOn pool.old.history pool.new.history []) }
+    ensures went_on { IsErrOf result BayFault.Failed → GoesOn pool.old.history pool.new.history [] }
+    ensures sizes { map D.size devices.new ≡ map D.size devices.old }
+    ensures cause { HaveCause (map D.faults devices.old) (map D.faults devices.new) result }
+{
+    pool.facts();
+    let Ok(batch) = pool.hold(by, 0, BATCH) else {
+        return Err(BayFault::Memory);
+    };
+    if batch.items.len() == 0 {
+        return Ok(false);
+    }
+    match judge(alloc, pool, devices, by, &batch, good, buf) {
+        Ok(_) => Ok(true),
+        Err(fault) => Err(fault),
+    }
+}
+
+/// Checks all that waits, a batch at a time.
+fn check_waiting<D: Device>(
+    alloc: Global,
+    pool: &mut Pool,
+    devices: &mut [D],
+    by: u8,
+    good: &mut [u8],
+    buf: &mut [u8],
+) -> Result<(), BayFault>
+    requires up { IsUp pool.old }
+    requires width { length devices.old ≤ 4 }
+    requires good { length good.old ≡ 131072 }
+    requires buf { length buf.old ≡ 131072 }
+    ensures all { OnOk result (pool.new.core.scan.waiting ≡ []) }
+    ensures still { OnOk result (StandsStill pool.old.core pool.new.core) }
+    ensures up { OnOk result (IsUp pool.new) }
+    ensures goes_on { OnOk result (GoesOn pool.old.history pool.new.history []) }
+    ensures went_on { IsErrOf result BayFault.Failed → GoesOn pool.old.history pool.new.history [] }
+    ensures sizes { map D.size devices.new ≡ map D.size devices.old }
+    ensures cause { HaveCause (map D.faults devices.old) (map D.faults devices.new) result }
+{
+    loop {
+        match check_next(alloc, pool, devices, by, good, buf) {
+            Ok(true) => {}
+            Ok(false) => return Ok(()),
+            Err(fault) => return Err(fault),
+        }
+    }
+}
+
+/// Walks on as far as it goes, and then checks all that waits; whether the walk was refused as full.
+fn walk_and_check<D: Device>(
+    alloc: Global,
+    pool: &mut Pool,
+    devices: &mut [D],
+    by: u8,
+    good: &mut [u8],
+    buf: &mut [u8],
+) -> Result<bool, BayFault>
+    requires up { IsUp pool.old }
+    requires runs { IsWalking pool.old.core.scan.run }
+    requires landed { pool.old.core.scan.flight ≡ [] }
+    requires width { length devices.old ≤ 4 }
+    requires good { length good.old ≡ 131072 }
+    requires buf { length buf.old ≡ 131072 }
+    ensures runs { OnOk result (IsWalking pool.new.core.scan.run) }
+    ensures landed { OnOk result (pool.new.core.scan.flight ≡ []) }
+    ensures complete { IfOk result (λ full. full ≡ false → IsComplete pool.new.core.scan) }
+    ensures fewer { IfOk result (λ full. full ≡ true → turns_left pool.new.core.state.graph pool.new.core.scan.run + min 1 (length pool.new.core.scan.waiting) < turns_left pool.old.core.state.graph pool.old.core.scan.run + min 1 (length pool.old.core.scan.waiting)) }
+    ensures up { OnOk result (IsUp pool.new) }
+    ensures goes_on { OnOk result (GoesOn pool.old.history pool.new.history []) }
+    ensures went_on { IsErrOf result BayFault.Failed → GoesOn pool.old.history pool.new.history [] }
+    ensures sizes { map D.size devices.new ≡ map D.size devices.old }
+    ensures cause { HaveCause (map D.faults devices.old) (map D.faults devices.new) result }
+{
+    let full = match walk_on(pool, by) {
+        Ok(full) => full,
+        Err(fault) => return Err(fault),
+    };
+    match check_waiting(alloc, pool, devices, by, good, buf) {
+        Ok(()) => Ok(full),
+        Err(fault) => Err(fault),
+    }
+}
+
+/// Walks and checks until the scan is complete.
+fn complete<D: Device>(
+    alloc: Global,
+    pool: &mut Pool,
+    devices: &mut [D],
+    by: u8,
+    good: &mut [u8],
+    buf: &mut [u8],
+) -> Result<(), BayFault>
+    requires up { IsUp pool.old }
+    requires runs { IsWalking pool.old.core.scan.run }
+    requires landed { pool.old.core.scan.flight ≡ [] }
+    requires width { length devices.old ≤ 4 }
+    requires good { length good.old ≡ 131072 }
+    requires buf { length buf.old ≡ 131072 }
+    ensures complete { OnOk result (IsComplete pool.new.core.scan) }
+    ensures up { OnOk result (IsUp pool.new) }
+    ensures goes_on { OnOk result (GoesOn pool.old.history pool.new.history []) }
+    ensures went_on { IsErrOf result BayFault.Failed → GoesOn pool.old.history pool.new.history [] }
+    ensures sizes { map D.size devices.new ≡ map D.size devices.old }
+    ensures cause { HaveCause (map D.faults devices.old) (map D.faults devices.new) result }
+{
+    loop {
+        match walk_and_check(alloc, pool, devices, by, good, buf) {
+            Ok(true) => {}
+            Ok(false) => return Ok(()),
+            Err(fault) => return Err(fault),
+        }
+    }
+}
+
+/// Brings the scan to its end: checks all that it is to check, and commits.
+fn end_scan<D: Device>(
+    alloc: Global,
+    pool: &mut Pool,
+    devices: &mut [D],
+    by: u8,
+    good: &mut [u8],
+    buf: &mut [u8],
+) -> Result<(), BayFault>
+    requires ready { IsReady pool.old }
+    requires runs { IsWalking pool.old.core.scan.run }
+    requires width { length devices.old ≤ 4 }
+    requires good { length good.old ≡ 131072 }
+    requires buf { length buf.old ≡ 131072 }
+    ensures ends { OnOk result ((is_at_work pool.new.core.state.scan ≡ false) ⊎ (pool.new.core.state.open_txg.txg ≡ TXG_END)) }
+    ensures ready { OnOk result (IsReady pool.new) }
+    ensures goes_on { OnOk result (GoesOn pool.old.history pool.new.history []) }
+    ensures went_on { IsErrOf result BayFault.Failed → GoesOn pool.old.history pool.new.history [] }
+    ensures sizes { map D.size devices.new ≡ map D.size devices.old }
+    ensures cause { HaveCause (map D.faults devices.old) (map D.faults devices.new) result }
+{
+    match land_flights(alloc, pool, devices, by, good, buf) {
+        Ok(()) => {}
+        Err(fault) => return Err(fault),
+    }
+    match complete(alloc, pool, devices, by, good, buf) {
+        Ok(()) => {}
+        Err(fault) => return Err(fault),
+    }
+    match sync(pool, devices) {
+        Ok(()) => Ok(()),
+        Err(fault) => Err(fault),
+    }
+}
+
+/// Brings the scan to its end, as a line.
+pub fn finish<D: Device>(
+    alloc: Global,
+    pool: &mut Pool,
+    devices: &mut [D],
+    by: u8,
+    good: &mut [u8],
+    buf: &mut [u8],
+) -> Result<(), BayFault>
+    requires ready { IsReady pool.old }
+    requires width { length devices.old ≤ 4 }
+    requires good { length good.old ≡ 131072 }
+    requires buf { length buf.old ≡ 131072 }
+    ensures ready { OnOk result (IsReady pool.new) }
+    ensures goes_on { OnOk result (GoesOn pool.old.history pool.new.history (Command.Finish ∷ [])) }
+    ensures went_on { IsErrOf result BayFault.Failed → GoesOn pool.old.history pool.new.history [] }
+    ensures sizes { map D.size devices.new ≡ map D.size devices.old }
+    ensures cause { HaveCause (map D.faults devices.old) (map D.faults devices.new) result }
+{
+    match refusal(pool) {
+        Some(why) => return end_line(pool, by, &Command::Finish, Reply::Refused(why)),
+        None => {}
+    }
+    match end_scan(alloc, pool, devices, by, good, buf) {
+        Ok(()) => {}
+        Err(fault) => return Err(fault),
+    }
+    end_line(pool, by, &Command::Finish, Reply::Nothing)
+}
