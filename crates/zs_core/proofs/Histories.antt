@@ -1,11 +1,14 @@
 -- A history goes on by one event.
-use Rattle.std.specs.Prelude.{◌≡◌, List, [], ◌∷◌, ◌++◌, refl}
-use Rattle.std.proofs.Common.{sym, ◌∙◌, ap, subst, append_assoc, append-nil}
+use Rattle.std.specs.Prelude.{◌≡◌, ◌≤◌, List, [], ◌∷◌, ◌++◌, refl}
+use Rattle.std.proofs.Common.{sym, ◌∙◌, ap, subst, append_assoc, append-nil, arith}
 use Rattle.zs_core.specs.declared.event.Event.{Event}
 use Rattle.zs_core.specs.Machine.{PoolState}
 use Rattle.zs_core.specs.Steps.{Steps}
 use Rattle.zs_core.specs.History.{Full, FullSteps, Run, IsHistory, kept_after}
 use Rattle.zs_core.specs.Told.{Tells, AreTold}
+use Rattle.zs_core.specs.Shapes.{events_due}
+use Rattle.zs_core.specs.declared.event.Stage.{Stage}
+use Rattle.zs_core.specs.declared.event.Stage.TheVariants.{Writing, Labelling, Between}
 
 run_push : (s t u : Full) (es : List Event) (e : Event) → Run s es t → FullSteps t e u → Run s (es ++ e ∷ []) u
 run_push s t u [] e run step = (u, subst (λ (x : Full). FullSteps x e u) run step, refl)
@@ -32,3 +35,9 @@ history_on s t es new e is h step tells = record {
 -- an event that was added to a list was added to an equal one
 pub event_added : (new kept old : List Event) (e : Event) → new ≡ kept ++ e ∷ [] → kept ≡ old → new ≡ old ++ e ∷ []
 event_added new kept old e added same = added ∙ ap (λ (l : List Event). l ++ e ∷ []) same
+
+-- a sync in progress adds at most two events more
+pub due_few : (s : Stage) → events_due s ≤ 2
+due_few Writing = omega arith
+due_few Labelling = omega arith
+due_few Between = omega arith

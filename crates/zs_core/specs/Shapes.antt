@@ -6,6 +6,8 @@ use Rattle.zs_script.specs.Lines.{IsMake, IsRecord}
 use Rattle.zs_script.specs.declared.reply.Reply.{Reply}
 use Rattle.zs_script.specs.declared.reply.Reply.TheVariants as reply
 use Rattle.zs_core.specs.declared.shape.Shape.{Shape}
+use Rattle.zs_core.specs.declared.event.Stage.{Stage}
+use Rattle.zs_core.specs.declared.event.Stage.TheVariants as stages
 
 -- the first sector of the space: 8 sectors of labels and two records come before it
 abbrev pub data_start : ℕ → ℕ
@@ -30,6 +32,12 @@ IsPoolCommand (command.Make ds object levels size fill) = IsMake object levels s
 IsPoolCommand (command.Write ds object leaf fill) = IsRecord object leaf
 IsPoolCommand command.Status = Unit {0}
 IsPoolCommand _ = ⊥
+
+-- how many events a sync in progress still adds: one when its data are written, and one when it ends
+abbrev pub events_due : Stage → ℕ
+events_due stages.Writing = 2
+events_due stages.Labelling = 1
+events_due stages.Between = 0
 
 -- the reply has no list
 abbrev pub IsPlain : Reply → Type 0

@@ -74,7 +74,8 @@ impl Present {
         ensures scan { OnOk result ((pieces : List Piece) × AreGone pieces self.old.state.graph self.new.state.graph × IsSynced pieces self.new.state.applied self.old.scan self.new.scan) }
         ensures limit { OnOk result (self.new.scan.limit ≡ self.old.scan.limit) }
         ensures space { OnOk result ((self.new.next_sector ≡ self.old.next_sector) × (self.new.end_sector ≡ self.old.end_sector)) }
-        ensures err { OnErr result (self.new.state.suspended ≡ true) }
+        ensures stage { OnOk result (self.new.state.stage ≡ Stage.Labelling) }
+        ensures err { OnErr result ((self.new.state.suspended ≡ true) × (self.new.state.stage ≡ Stage.Between)) }
     {
         let Some(closed) = self.closed.take() else {
             unreachable!();

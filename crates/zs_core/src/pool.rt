@@ -77,17 +77,24 @@ impl Model for Pool {
 
     ghost Value = { PoolView };
 
+    ghost use Rattle.std.specs.Prelude.{◌≤◌, ◌+◌, vec_len, vec_capacity};
     ghost use Rattle.zs_core.specs.History.{IsHistory};
+    ghost use Rattle.zs_core.specs.Shapes.{events_due};
 
     ghost view = { λ p. record { core = p.present; history = p.history.items } };
 
-    ghost invariant = { λ p. IsHistory p.history.items p.present.state };
+    ghost invariant = { λ p. IsHistory p.history.items p.present.state × (vec_len p.history + events_due p.present.state.stage ≤ vec_capacity p.history) };
 }
+
+/// Room for an event, and for the two that end a sync in progress.
+const ROOM: usize = 3;
 
 /// Adds an event to a history that has room for it.
 fn note(history: &mut Vec<Event>, event: Event)
     requires { vec_len history.old < vec_capacity history.old }
-    ensures { history.new.items ≡ history.old.items ++ event ∷ [] }
+    ensures items { history.new.items ≡ history.old.items ++ event ∷ [] }
+    ensures len { vec_len history.new ≡ vec_len history.old + 1 }
+    ensures capacity { vec_capacity history.new ≡ vec_capacity history.old }
 {
     history.push_reserved(event);
 }
@@ -120,12 +127,28 @@ fn pieces_judged(pieces: Vec<Piece>, entries: &[Entry]) -> Vec<Piece>
     pieces
 }
 
+/// The event of a sync in which memory was wanting, with the devices that were online.
+fn suspended(online: u32) -> Event
+    ensures { result ≡ record { by = 0; step = Step.Suspend online CommitFault.Memory; reply = Reply.Nothing } }
+{
+    Event {
+        by: 0,
+        step: Step::Suspend {
+            online,
+            why: CommitFault::Memory,
+        },
+        reply: Reply::Nothing,
+    }
+}
+
 /// Adds the event of a command to a history that has room for it, and gives the reply back. The reply is one that
 /// stands alone.
 fn record(history: &mut Vec<Event>, by: u8, c: &Command, reply: Reply) -> Reply
     requires room { vec_len history.old < vec_capacity history.old }
     requires plain { IsPlain reply }
     ensures event { history.new.items ≡ history.old.items ++ record { by = by; step = Step.Command c.now; reply = reply } ∷ [] }
+    ensures len { vec_len history.new ≡ vec_len history.old + 1 }
+    ensures capacity { vec_capacity history.new ≡ vec_capacity history.old }
     ensures same { result ≡ reply }
 {
     let copy = copied(&reply);
@@ -176,7 +199,7 @@ impl Pool {
         ensures space { IfOk result (λ p. p.core.next_sector ≡ data_start shape.blocks) }
     {
         let mut history = Vec::new(alloc);
-        history.reserve(1)?;
+        history.reserve(ROOM)?;
         let start = shape.data_start();
         let end = shape.space_end();
         let present = Present::blank(alloc, shape.devices, shape.width, shape.limit, start, end)?;
@@ -267,7 +290,7 @@ impl Pool {
         ensures status { c.now ≡ Command.Status → IfOk result (λ answer. answer ≡ status_reply self.old.core.state self.old.core.scan) }
         ensures err { OnErr result (self.new ≡ self.old) }
     {
-        self.history.reserve(1)?;
+        self.history.reserve(ROOM)?;
         match c {
             Command::Fs { name } => {
                 let reply = self.present.queue(by, Task::Fs(*name))?;
@@ -327,7 +350,7 @@ impl Pool {
         ensures refused { IsErrOf result PoolFault.Refused → Adds self.old.history self.new.history × (self.new.core ≡ self.old.core) }
         ensures memory { IsErrOf result PoolFault.Memory → self.new ≡ self.old }
     {
-        self.history.reserve(1)?;
+        self.history.reserve(ROOM)?;
         let txg = self.present.open_txg();
         if txg == TXG_END {
             let event = Event {
@@ -366,23 +389,15 @@ impl Pool {
         ensures ends { OnOk result (IsComplete self.old.core.scan → is_at_work self.new.core.state.scan ≡ false) }
         ensures step { OnOk result (DataStep self.old.core.state self.new.core.state) }
         ensures space { OnOk result ((self.new.core.next_sector ≡ self.old.core.next_sector) × (self.new.core.end_sector ≡ self.old.core.end_sector)) }
+        ensures err { OnErr result (AddsEvent 0 (Step.Suspend self.old.core.state.online CommitFault.Memory) Reply.Nothing self.old.history self.new.history × (self.new.core.state.suspended ≡ true)) }
         ensures scan { OnOk result ((pieces : List Piece) × AreGone pieces self.old.core.state.graph self.new.core.state.graph × IsSynced pieces self.new.core.state.applied self.old.core.scan self.new.core.scan) }
         ensures limit { OnOk result (self.new.core.scan.limit ≡ self.old.core.scan.limit) }
         ensures stage { OnOk result (self.new.core.state.stage ≡ Stage.Labelling) }
         ensures up { OnOk result (self.new.core.state.suspended ≡ false) }
     {
-        self.history.reserve(1)?;
         let online = self.present.online();
         if self.present.apply().is_err() {
-            let event = Event {
-                by: 0,
-                step: Step::Suspend {
-                    online,
-                    why: CommitFault::Memory,
-                },
-                reply: Reply::Nothing,
-            };
-            note(&mut self.history, event);
+            note(&mut self.history, suspended(online));
             return Err(AllocError);
         }
         let event = Event {
@@ -402,7 +417,7 @@ impl Pool {
         ensures core { OnOk result (self.new.core ≡ self.old.core) }
         ensures err { OnErr result (self.new ≡ self.old) }
     {
-        self.history.reserve(1)?;
+        self.history.reserve(ROOM)?;
         let event = Event {
             by,
             step: Step::Line(*c),
@@ -419,12 +434,16 @@ impl Pool {
         ensures adds { OnOk result (Adds self.old.history self.new.history) }
         ensures event { OnOk result (AddsEvent 0 (Step.Committed self.old.core.state.online) (committed_reply self.old.core.state) self.old.history self.new.history) }
         ensures core { OnOk result (self.new.core ≡ record self.old.core { state = record self.old.core.state { stage = Stage.Between } }) }
+        ensures err { OnErr result (AddsEvent 0 (Step.Suspend self.old.core.state.online CommitFault.Memory) Reply.Nothing self.old.history self.new.history × (self.new.core.state.suspended ≡ true)) }
         ensures stage { OnOk result (self.new.core.state.stage ≡ Stage.Between) }
         ensures up { OnOk result (self.new.core.state.suspended ≡ false) }
     {
-        self.history.reserve(1)?;
         let online = self.present.online();
-        let reply = self.present.committed_reply()?;
+        let Ok(reply) = self.present.committed_reply() else {
+            self.present.suspend();
+            note(&mut self.history, suspended(online));
+            return Err(AllocError);
+        };
         self.present.commit();
         let event = Event {
             by: 0,
@@ -447,7 +466,7 @@ impl Pool {
         ensures busy { IsErrOf result ScanFault.ScanBusy → ⊥ }
         ensures err { OnErr result (self.new ≡ self.old) }
     {
-        self.history.reserve(1)?;
+        self.history.reserve(ROOM)?;
         let turn = self.present.walk()?;
         let event = Event {
             by,
@@ -470,7 +489,7 @@ impl Pool {
         ensures core { self.new.core ≡ record self.old.core { scan = self.new.core.scan } }
         ensures err { OnErr result ((self.new.history ≡ self.old.history) × (self.new.core.scan ≡ record self.old.core.scan { room = self.new.core.scan.room })) }
     {
-        self.history.reserve(1)?;
+        self.history.reserve(ROOM)?;
         let mut pieces = Vec::new(self.alloc);
         pieces.reserve(n as usize)?;
         let Ok(batch) = self.present.take(vdev, n) else {
@@ -500,7 +519,7 @@ impl Pool {
         ensures up { self.new.core.state.suspended ≡ self.old.core.state.suspended }
         ensures err { OnErr result (self.new ≡ self.old) }
     {
-        self.history.reserve(1)?;
+        self.history.reserve(ROOM)?;
         let mut pieces = Vec::new(self.alloc);
         pieces.reserve(v.entries.len())?;
         let Some(made) = self.present.verdict(v.number, v.entries.as_slice())? else {
@@ -546,7 +565,7 @@ impl Pool {
         ensures refused { IsErrOf result PoolFault.Refused → Adds self.old.history self.new.history × (self.new.core ≡ self.old.core) }
         ensures memory { IsErrOf result PoolFault.Memory → self.new ≡ self.old }
     {
-        self.history.reserve(1)?;
+        self.history.reserve(ROOM)?;
         let line = Command::Read {
             ds: *ds,
             object,
@@ -592,7 +611,7 @@ impl Pool {
         ensures up { OnOk result (self.new.core.state.suspended ≡ self.old.core.state.suspended) }
         ensures err { OnErr result (self.new ≡ self.old) }
     {
-        self.history.reserve(1)?;
+        self.history.reserve(ROOM)?;
         let Some(reply) = self.present.read_end(by, &plan, got) else {
             return Ok(false);
         };

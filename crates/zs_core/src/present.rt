@@ -240,7 +240,8 @@ impl Present {
 
     /// Suspends the pool.
     pub(crate) fn suspend(&mut self)
-        ensures { self.new.state.suspended ≡ true }
+        ensures suspended { self.new.state.suspended ≡ true }
+        ensures stage { self.new.state.stage ≡ Stage.Between }
     {
         self.suspended = true;
         self.stage = Stage::Between;

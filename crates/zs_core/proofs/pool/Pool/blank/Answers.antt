@@ -1,22 +1,35 @@
 -- The history begins with the pool's making.
-use Rattle.std.proofs.Common.{◌≡◌, ◌∙◌, ap, refl, [], ◌*◌, arith}
+use Rattle.zs_core.specs.Shapes.{events_due}
+use Rattle.std.proofs.Common.{◌+◌, ◌≤◌, vec_len, vec_capacity, ◌≡◌, ◌∙◌, ap, refl, [], ◌*◌, arith}
 use Rattle.zs_script.specs.declared.command.Command.TheVariants.{Pool}
 use Rattle.zs_script.specs.declared.reply.Reply.TheVariants as reply
 use Rattle.zs_core.specs.declared.event.Step.TheVariants as step
 use Rattle.zs_core.specs.Steps.{blank_state}
-use Rattle.zs_core.proofs.Histories.{event_added}
+use Rattle.zs_core.proofs.Histories.{event_added, due_few}
 use Rattle.zs_core.proofs.pool.Pool.blank.Goals as goal
+
+room : (c : goal.After-note) → vec_len c.note.new.history + events_due c.in_ok-present.present.state.stage ≤ vec_capacity c.note.new.history
+room c =
+    let few = due_few c.in_ok-present.present.state.stage in
+    let more = c.note.ensures.len in
+    let same = c.note.ensures.capacity in
+    let len = c.in_ok-reserve.ensures.len in
+    let ok = c.in_ok-reserve.ensures.ok in
+    let none = c.new-history.ensures.len in
+    omega arith
 
 pub invariant_of-result : goal.invariant_of-result
 invariant_of-result c =
-    let one : c.args.shape.devices ≡ 1 * c.args.shape.width = let d = c.requires.devices in omega arith in
-    record {
-      first = record { by = 0; step = step.Made (Pool c.args.shape.pool c.args.shape.width c.args.shape.limit c.args.shape.every c.args.shape.blocks); reply = reply.Made c.args.shape.pool 1 };
-      others = [];
-      is = event_added _ _ [] _ c.note.ensures (c.in_ok-reserve.ensures.items ∙ c.new-history.ensures.items);
-      start = c.in_ok-present.present.state;
-      begins = (refl, c.in_ok-present.ensures.state ∙ ap (blank_state c.args.shape.width) one);
-      kept = c.in_ok-present.present.state;
-      run = refl;
-      told = rw (event_added _ _ [] _ c.note.ensures (c.in_ok-reserve.ensures.items ∙ c.new-history.ensures.items)) (tt, tt);
-    }
+    let one : c.args.shape.devices ≡ 1 * c.args.shape.width = let d = c.requires.devices in omega arith in (
+      record {
+        first = record { by = 0; step = step.Made (Pool c.args.shape.pool c.args.shape.width c.args.shape.limit c.args.shape.every c.args.shape.blocks); reply = reply.Made c.args.shape.pool 1 };
+        others = [];
+        is = event_added _ _ [] _ c.note.ensures.items (c.in_ok-reserve.ensures.items ∙ c.new-history.ensures.items);
+        start = c.in_ok-present.present.state;
+        begins = (refl, c.in_ok-present.ensures.state ∙ ap (blank_state c.args.shape.width) one);
+        kept = c.in_ok-present.present.state;
+        run = refl;
+        told = rw (event_added _ _ [] _ c.note.ensures.items (c.in_ok-reserve.ensures.items ∙ c.new-history.ensures.items)) (tt, tt);
+      },
+      room c,
+    )
