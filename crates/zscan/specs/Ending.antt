@@ -1,10 +1,7 @@
 -- How a session ends.
 use Rattle.std.specs.Prelude.{◌≡◌, ◌⊎◌, ℕ, List, [], Option, Some, None}
 use Rattle.zs_core.specs.declared.event.Event.{Event}
-use Rattle.zs_core.specs.History.{IsHistory, text_of}
-use Rattle.zs_core.specs.Machine.{PoolState}
 use Rattle.zscan.specs.declared.session.Session.{Session}
-use Rattle.zscan.specs.Puts.{PutsPart}
 
 -- a status with which a session ends
 abbrev pub IsSessionStatus : ℕ → Type 0
@@ -19,10 +16,3 @@ history_in (Some s) = s.pool.history
 abbrev pub devices_in : {D : Type 0} → Option (Session D) → List D → List D
 devices_in None fetched = fetched
 devices_in (Some s) fetched = s.devices.items
-
--- a beginning of the text of a run of the machine was put, and nothing else
-pub record PutsRun (before now : Option (List ℕ)) : Type 0 where
-  pub events : List Event
-  pub state : PoolState
-  pub run : IsHistory events state
-  pub part : PutsPart (text_of events) before now

@@ -133,6 +133,7 @@ pub fn hold(alloc: Global, pool: &mut Pool, by: u8, vdev: u8, pieces: u32) -> Re
     ensures ready { OnOk result (IsReady pool.new) }
     ensures goes_on { OnOk result (GoesOn pool.old.history pool.new.history (Command.Hold vdev pieces ∷ [])) }
     ensures memory { OnErr result (result ≡ Err BayFault.Memory) }
+    ensures went_on { OnErr result (GoesOn pool.old.history pool.new.history []) }
 {
     let Ok(batch) = pool.hold(by, vdev, pieces) else {
         return Err(BayFault::Memory);
@@ -173,7 +174,7 @@ pub fn issue<D: Device>(
     requires buf { length buf.old ≡ 131072 }
     ensures ready { OnOk result (IsReady pool.new) }
     ensures goes_on { OnOk result (GoesOn pool.old.history pool.new.history (Command.Issue vdev pieces ∷ [])) }
-    ensures went_on { IsErrOf result BayFault.Failed → GoesOn pool.old.history pool.new.history [] }
+    ensures went_on { OnErr result (GoesOn pool.old.history pool.new.history []) }
     ensures sizes { map D.size devices.new ≡ map D.size devices.old }
     ensures cause { HaveCause (map D.faults devices.old) (map D.faults devices.new) result }
 {
@@ -207,7 +208,7 @@ fn check_some<D: Device>(
     ensures told { IfOk result (λ shown. TellsIssue (line_steps pool.new.history) vdev pieces shown) }
     ensures up { OnOk result (IsUp pool.new) }
     ensures goes_on { OnOk result (GoesOn pool.old.history pool.new.history []) }
-    ensures went_on { IsErrOf result BayFault.Failed → GoesOn pool.old.history pool.new.history [] }
+    ensures went_on { OnErr result (GoesOn pool.old.history pool.new.history []) }
     ensures sizes { map D.size devices.new ≡ map D.size devices.old }
     ensures cause { HaveCause (map D.faults devices.old) (map D.faults devices.new) result }
 {

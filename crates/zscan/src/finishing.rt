@@ -32,7 +32,7 @@ pub fn sync<D: Device>(pool: &mut Pool, devices: &mut [D]) -> Result<(), BayFaul
     ensures ready { OnOk result (IsReady pool.new) }
     ensures ends { OnOk result (IsComplete pool.old.core.scan → (is_at_work pool.new.core.state.scan ≡ false) ⊎ (pool.new.core.state.open_txg.txg ≡ TXG_END)) }
     ensures goes_on { OnOk result (GoesOn pool.old.history pool.new.history []) }
-    ensures went_on { IsErrOf result BayFault.Failed → GoesOn pool.old.history pool.new.history [] }
+    ensures went_on { OnErr result (GoesOn pool.old.history pool.new.history []) }
     ensures sizes { map D.size devices.new ≡ map D.size devices.old }
     ensures cause { HaveCause (map D.faults devices.old) (map D.faults devices.new) result }
 {
@@ -56,6 +56,7 @@ pub fn commit(pool: &mut Pool) -> Result<(), BayFault>
     ensures ends { OnOk result (IsComplete pool.old.core.scan → is_at_work pool.new.core.state.scan ≡ false) }
     ensures goes_on { OnOk result (GoesOn pool.old.history pool.new.history []) }
     ensures memory { OnErr result (result ≡ Err BayFault.Memory) }
+    ensures went_on { OnErr result (GoesOn pool.old.history pool.new.history []) }
 {
     let Ok(()) = pool.end_data() else {
         return Err(BayFault::Memory);
@@ -97,7 +98,7 @@ fn land_flights<D: Device>(
     ensures runs { OnOk result (IsWalking pool.old.core.scan.run → IsWalking pool.new.core.scan.run) }
     ensures up { OnOk result (IsUp pool.new) }
     ensures goes_on { OnOk result (GoesOn pool.old.history pool.new.history []) }
-    ensures went_on { IsErrOf result BayFault.Failed → GoesOn pool.old.history pool.new.history [] }
+    ensures went_on { OnErr result (GoesOn pool.old.history pool.new.history []) }
     ensures sizes { map D.size devices.new ≡ map D.size devices.old }
     ensures cause { HaveCause (map D.faults devices.old) (map D.faults devices.new) result }
 {
@@ -123,6 +124,7 @@ fn walk_on(pool: &mut Pool, by: u8) -> Result<bool, BayFault>
     ensures up { OnOk result (IsUp pool.new) }
     ensures goes_on { OnOk result (GoesOn pool.old.history pool.new.history []) }
     ensures memory { OnErr result (result ≡ Err BayFault.Memory) }
+    ensures went_on { OnErr result (GoesOn pool.old.history pool.new.history []) }
 {
     pool.facts();
     loop {
@@ -153,7 +155,7 @@ fn check_next<D: Device>(
     ensures still { OnOk result (StandsStill pool.old.core pool.new.core) }
     ensures up { OnOk result (IsUp pool.new) }
     ensures goes_on { OnOk result (GoesOn pool.old.history pool.new.history []) }
-    ensures went_on { IsErrOf result BayFault.Failed → GoesOn pool.old.history pool.new.history [] }
+    ensures went_on { OnErr result (GoesOn pool.old.history pool.new.history []) }
     ensures sizes { map D.size devices.new ≡ map D.size devices.old }
     ensures cause { HaveCause (map D.faults devices.old) (map D.faults devices.new) result }
 {
@@ -187,7 +189,7 @@ fn check_waiting<D: Device>(
     ensures still { OnOk result (StandsStill pool.old.core pool.new.core) }
     ensures up { OnOk result (IsUp pool.new) }
     ensures goes_on { OnOk result (GoesOn pool.old.history pool.new.history []) }
-    ensures went_on { IsErrOf result BayFault.Failed → GoesOn pool.old.history pool.new.history [] }
+    ensures went_on { OnErr result (GoesOn pool.old.history pool.new.history []) }
     ensures sizes { map D.size devices.new ≡ map D.size devices.old }
     ensures cause { HaveCause (map D.faults devices.old) (map D.faults devices.new) result }
 {
@@ -221,7 +223,7 @@ fn walk_and_check<D: Device>(
     ensures fewer { IfOk result (λ full. full ≡ true → turns_left pool.new.core.state.graph pool.new.core.scan.run + min 1 (length pool.new.core.scan.waiting) < turns_left pool.old.core.state.graph pool.old.core.scan.run + min 1 (length pool.old.core.scan.waiting)) }
     ensures up { OnOk result (IsUp pool.new) }
     ensures goes_on { OnOk result (GoesOn pool.old.history pool.new.history []) }
-    ensures went_on { IsErrOf result BayFault.Failed → GoesOn pool.old.history pool.new.history [] }
+    ensures went_on { OnErr result (GoesOn pool.old.history pool.new.history []) }
     ensures sizes { map D.size devices.new ≡ map D.size devices.old }
     ensures cause { HaveCause (map D.faults devices.old) (map D.faults devices.new) result }
 {
@@ -253,7 +255,7 @@ fn complete<D: Device>(
     ensures complete { OnOk result (IsComplete pool.new.core.scan) }
     ensures up { OnOk result (IsUp pool.new) }
     ensures goes_on { OnOk result (GoesOn pool.old.history pool.new.history []) }
-    ensures went_on { IsErrOf result BayFault.Failed → GoesOn pool.old.history pool.new.history [] }
+    ensures went_on { OnErr result (GoesOn pool.old.history pool.new.history []) }
     ensures sizes { map D.size devices.new ≡ map D.size devices.old }
     ensures cause { HaveCause (map D.faults devices.old) (map D.faults devices.new) result }
 {
@@ -283,7 +285,7 @@ fn end_scan<D: Device>(
     ensures ends { OnOk result ((is_at_work pool.new.core.state.scan ≡ false) ⊎ (pool.new.core.state.open_txg.txg ≡ TXG_END)) }
     ensures ready { OnOk result (IsReady pool.new) }
     ensures goes_on { OnOk result (GoesOn pool.old.history pool.new.history []) }
-    ensures went_on { IsErrOf result BayFault.Failed → GoesOn pool.old.history pool.new.history [] }
+    ensures went_on { OnErr result (GoesOn pool.old.history pool.new.history []) }
     ensures sizes { map D.size devices.new ≡ map D.size devices.old }
     ensures cause { HaveCause (map D.faults devices.old) (map D.faults devices.new) result }
 {
@@ -316,7 +318,7 @@ pub fn finish<D: Device>(
     requires buf { length buf.old ≡ 131072 }
     ensures ready { OnOk result (IsReady pool.new) }
     ensures goes_on { OnOk result (GoesOn pool.old.history pool.new.history (Command.Finish ∷ [])) }
-    ensures went_on { IsErrOf result BayFault.Failed → GoesOn pool.old.history pool.new.history [] }
+    ensures went_on { OnErr result (GoesOn pool.old.history pool.new.history []) }
     ensures sizes { map D.size devices.new ≡ map D.size devices.old }
     ensures cause { HaveCause (map D.faults devices.old) (map D.faults devices.new) result }
 {

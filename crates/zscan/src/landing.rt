@@ -92,7 +92,7 @@ fn land_more<D: Device>(
     ensures fewer { (made : ℕ) → result ≡ Ok (Some made) → length pool.new.core.scan.flight < length pool.old.core.scan.flight }
     ensures up { OnOk result (IsUp pool.new) }
     ensures goes_on { OnOk result (GoesOn pool.old.history pool.new.history []) }
-    ensures went_on { IsErrOf result BayFault.Failed → pool.new ≡ pool.old }
+    ensures went_on { OnErr result (GoesOn pool.old.history pool.new.history []) }
     ensures sizes { map D.size devices.new ≡ map D.size devices.old }
     ensures cause { HaveCause (map D.faults devices.old) (map D.faults devices.new) result }
 {
@@ -200,7 +200,7 @@ fn land_each<D: Device>(
     ensures all { OnOk result (pool.new.core.scan.flight ≡ []) }
     ensures up { OnOk result (IsUp pool.new) }
     ensures goes_on { OnOk result (GoesOn pool.old.history pool.new.history []) }
-    ensures went_on { IsErrOf result BayFault.Failed → GoesOn pool.old.history pool.new.history [] }
+    ensures went_on { OnErr result (GoesOn pool.old.history pool.new.history []) }
     ensures sizes { map D.size devices.new ≡ map D.size devices.old }
     ensures cause { HaveCause (map D.faults devices.old) (map D.faults devices.new) result }
 {
@@ -229,7 +229,7 @@ pub fn land<D: Device>(
     requires buf { length buf.old ≡ 131072 }
     ensures ready { OnOk result (IsReady pool.new) }
     ensures goes_on { OnOk result (GoesOn pool.old.history pool.new.history (Command.Land ∷ [])) }
-    ensures went_on { IsErrOf result BayFault.Failed → GoesOn pool.old.history pool.new.history [] }
+    ensures went_on { OnErr result (GoesOn pool.old.history pool.new.history []) }
     ensures sizes { map D.size devices.new ≡ map D.size devices.old }
     ensures cause { HaveCause (map D.faults devices.old) (map D.faults devices.new) result }
 {

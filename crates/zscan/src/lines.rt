@@ -27,6 +27,7 @@ pub fn end_line(pool: &mut Pool, by: u8, command: &Command, reply: Reply) -> Res
     ensures ready { OnOk result (IsReady pool.new) }
     ensures goes_on { OnOk result (GoesOn pool.old.history pool.new.history (command.now ∷ [])) }
     ensures memory { OnErr result (result ≡ Err BayFault.Memory) }
+    ensures went_on { OnErr result (GoesOn pool.old.history pool.new.history []) }
 {
     let Ok(()) = pool.line(by, command, reply) else {
         return Err(BayFault::Memory);
@@ -48,7 +49,7 @@ fn read<D: Device>(
     requires buf { length buf.old ≡ 131072 }
     ensures ready { OnOk result (IsReady pool.new) }
     ensures goes_on { OnOk result (GoesOn pool.old.history pool.new.history (Command.Read ds.now object leaf ∷ [])) }
-    ensures went_on { IsErrOf result BayFault.Failed → GoesPart pool.old.history pool.new.history (Command.Read ds.now object leaf ∷ []) }
+    ensures went_on { OnErr result (GoesPart pool.old.history pool.new.history (Command.Read ds.now object leaf ∷ [])) }
     ensures sizes { map D.size devices.new ≡ map D.size devices.old }
     ensures cause { HaveCause (map D.faults devices.old) (map D.faults devices.new) result }
 {
@@ -58,7 +59,10 @@ fn read<D: Device>(
         Err(PoolFault::Memory) => return Err(BayFault::Memory),
     };
     match plan {
-        ReadPlan::Staged(_) | ReadPlan::Hole => end_read(pool, by, plan, None),
+        ReadPlan::Staged(_) | ReadPlan::Hole => match end_read(pool, by, plan, None) {
+            Ok(()) => Ok(()),
+            Err(_) => Err(BayFault::Memory),
+        },
         ReadPlan::Pinned(item, _) => {
             let size = 512 * usize::from(item.sectors);
             if size == 0 || size > BLOCK_BYTES || !is_on_each(devices, &item) {
@@ -66,8 +70,14 @@ fn read<D: Device>(
             }
             let copy = &mut buf[..size];
             match read_any(devices, &item, copy) {
-                Ok(true) => end_read(pool, by, plan, Some(copy)),
-                Ok(false) => end_read(pool, by, plan, None),
+                Ok(true) => match end_read(pool, by, plan, Some(copy)) {
+                    Ok(()) => Ok(()),
+                    Err(_) => Err(BayFault::Memory),
+                },
+                Ok(false) => match end_read(pool, by, plan, None) {
+                    Ok(()) => Ok(()),
+                    Err(_) => Err(BayFault::Memory),
+                },
                 Err(fault) => Err(fault),
             }
         }
@@ -81,6 +91,7 @@ fn end_read(pool: &mut Pool, by: u8, plan: ReadPlan, got: Option<&[u8]>) -> Resu
     ensures ready { OnOk result (IsReady pool.new) }
     ensures goes_on { OnOk result (GoesOn pool.old.history pool.new.history []) }
     ensures memory { OnErr result (result ≡ Err BayFault.Memory) }
+    ensures went_on { OnErr result (GoesOn pool.old.history pool.new.history []) }
 {
     let Ok(_) = pool.read_end(by, plan, got) else {
         return Err(BayFault::Memory);
@@ -104,7 +115,7 @@ pub fn run_line<D: Device>(
     requires buf { length buf.old ≡ 131072 }
     ensures ready { OnOk result (IsReady pool.new) }
     ensures goes_on { OnOk result (GoesOn pool.old.history pool.new.history (line.now.command ∷ [])) }
-    ensures went_on { IsErrOf result BayFault.Failed → GoesPart pool.old.history pool.new.history (line.now.command ∷ []) }
+    ensures went_on { OnErr result (GoesPart pool.old.history pool.new.history (line.now.command ∷ [])) }
     ensures sizes { map D.size devices.new ≡ map D.size devices.old }
     ensures cause { HaveCause (map D.faults devices.old) (map D.faults devices.new) result }
 {
@@ -135,6 +146,7 @@ fn command(pool: &mut Pool, line: &Line) -> Result<(), BayFault>
     ensures ready { OnOk result (IsReady pool.new) }
     ensures goes_on { OnOk result (GoesOn pool.old.history pool.new.history (line.now.command ∷ [])) }
     ensures memory { OnErr result (result ≡ Err BayFault.Memory) }
+    ensures went_on { OnErr result (GoesOn pool.old.history pool.new.history []) }
 {
     let Ok(_) = pool.command(line.by, &line.command) else {
         return Err(BayFault::Memory);
@@ -147,7 +159,7 @@ fn end_sync<D: Device>(pool: &mut Pool, devices: &mut [D], by: u8) -> Result<(),
     requires ready { IsReady pool.old }
     ensures ready { OnOk result (IsReady pool.new) }
     ensures goes_on { OnOk result (GoesOn pool.old.history pool.new.history (Command.Sync ∷ [])) }
-    ensures went_on { IsErrOf result BayFault.Failed → GoesOn pool.old.history pool.new.history [] }
+    ensures went_on { OnErr result (GoesOn pool.old.history pool.new.history []) }
     ensures sizes { map D.size devices.new ≡ map D.size devices.old }
     ensures cause { HaveCause (map D.faults devices.old) (map D.faults devices.new) result }
 {

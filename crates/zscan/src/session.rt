@@ -12,7 +12,7 @@ ghost use Rattle.zs_script.specs.Lines.{IsFirst, IsLater, IsScript};
 ghost use Rattle.zs_core.specs.Commands.{commands_of};
 ghost use Rattle.zscan.specs.Session.{IsReady, GoesOn, GoesPart, AreFirst, commands_in, HasReason, HasSinkReason, IsFitFor, IsUnfitFor, AreFitFor, AreUnfitFor};
 ghost use Rattle.zscan.specs.Puts.{Puts, PutsPart, PutsRefusal, refused_line};
-ghost use Rattle.zscan.specs.Ending.{IsSessionStatus, PutsRun, history_in, devices_in};
+ghost use Rattle.zscan.specs.Ending.{IsSessionStatus, history_in, devices_in};
 
 use crate::batches::BLOCK_BYTES;
 use crate::finishing::commit;
@@ -95,10 +95,9 @@ fn take_line<D: Device, K: Sink>(
     requires buf { length buf.old ≡ 131072 }
     ensures ready { OnOk result (IsReady pool.new) }
     ensures goes_on { OnOk result (GoesOn pool.old.history pool.new.history (line.now.command ∷ [])) }
-    ensures went_on { OnErr result (result ≢ Err Stop.Memory → GoesPart pool.old.history pool.new.history (line.now.command ∷ [])) }
+    ensures went_on { OnErr result (GoesPart pool.old.history pool.new.history (line.now.command ∷ [])) }
     ensures told { OnOk result ((start : Option (List ℕ)) → K.told out.old ≡ option_map (λ bytes. bytes ++ text_of pool.old.history) start → K.told out.new ≡ option_map (λ bytes. bytes ++ text_of pool.new.history) start) }
-    ensures part { OnErr result (result ≢ Err Stop.Memory → (start : Option (List ℕ)) → K.told out.old ≡ option_map (λ bytes. bytes ++ text_of pool.old.history) start → PutsPart (text_of pool.new.history) start (K.told out.new)) }
-    ensures run { IsErrOf result Stop.Memory → (start : Option (List ℕ)) → K.told out.old ≡ option_map (λ bytes. bytes ++ text_of pool.old.history) start → PutsRun start (K.told out.new) }
+    ensures part { OnErr result ((start : Option (List ℕ)) → K.told out.old ≡ option_map (λ bytes. bytes ++ text_of pool.old.history) start → PutsPart (text_of pool.new.history) start (K.told out.new)) }
     ensures sizes { map D.size devices.new ≡ map D.size devices.old }
     ensures cause { HasReason (map D.faults devices.old) (map D.faults devices.new) (K.faults out.old) (K.faults out.new) result }
 {
@@ -132,10 +131,9 @@ fn run_lines<D: Device, K: Sink>(
     requires good { length good.old ≡ 131072 }
     requires buf { length buf.old ≡ 131072 }
     ensures goes_on { OnOk result (GoesOn pool.old.history pool.new.history (commands_in lines.now)) }
-    ensures went_on { OnErr result (result ≢ Err Stop.Memory → GoesPart pool.old.history pool.new.history (commands_in lines.now)) }
+    ensures went_on { OnErr result (GoesPart pool.old.history pool.new.history (commands_in lines.now)) }
     ensures told { OnOk result (K.told out.new ≡ option_map (λ bytes. bytes ++ text_of pool.new.history) (K.told out.old)) }
-    ensures part { result ≢ Err Stop.Memory → PutsPart (text_of pool.new.history) (K.told out.old) (K.told out.new) }
-    ensures run { IsErrOf result Stop.Memory → PutsRun (K.told out.old) (K.told out.new) }
+    ensures part { PutsPart (text_of pool.new.history) (K.told out.old) (K.told out.new) }
     ensures sizes { map D.size devices.new ≡ map D.size devices.old }
     ensures cause { HasReason (map D.faults devices.old) (map D.faults devices.new) (K.faults out.old) (K.faults out.new) result }
 {
@@ -166,10 +164,9 @@ fn run_pool<D: Device, K: Sink>(
     requires up { pool.old.core.state.suspended ≡ false }
     requires width { length devices.old ≤ 4 }
     ensures goes_on { OnOk result (GoesOn pool.old.history pool.new.history (commands_in lines.now)) }
-    ensures went_on { OnErr result (result ≢ Err Stop.Memory → GoesPart pool.old.history pool.new.history (commands_in lines.now)) }
+    ensures went_on { OnErr result (GoesPart pool.old.history pool.new.history (commands_in lines.now)) }
     ensures told { OnOk result (K.told out.new ≡ option_map (λ bytes. bytes ++ text_of pool.new.history) (K.told out.old)) }
-    ensures part { result ≢ Err Stop.Memory → PutsPart (text_of pool.new.history) (K.told out.old) (K.told out.new) }
-    ensures run { IsErrOf result Stop.Memory → PutsRun (K.told out.old) (K.told out.new) }
+    ensures part { PutsPart (text_of pool.new.history) (K.told out.old) (K.told out.new) }
     ensures sizes { map D.size devices.new ≡ map D.size devices.old }
     ensures cause { HasReason (map D.faults devices.old) (map D.faults devices.new) (K.faults out.old) (K.faults out.new) result }
 {
@@ -293,12 +290,11 @@ pub fn step_session<D: Device + Drop, K: Sink>(
     ensures status { IsSessionStatus result.status }
     ensures text { result.status ≡ 0 → K.told out.new ≡ option_map (λ bytes. bytes ++ text_of (history_in result.session)) (K.told out.old) }
     ensures lines { result.status ≡ 0 → commands_of (history_in result.session) ≡ commands_in lines.now }
-    ensures lines_cut { IsSome result.session → result.status ≢ 7 → AreFirst (commands_of (history_in result.session)) (commands_in lines.now) }
+    ensures lines_cut { IsSome result.session → AreFirst (commands_of (history_in result.session)) (commands_in lines.now) }
     ensures session { result.status ≡ 0 → IsSome result.session }
     ensures history { IfSome result.session (λ s. IsHistory s.pool.history s.pool.core.state) }
     ensures safe { IfSome result.session (λ s. s.pool.core.state.suspended ≡ false → IsSafe s.pool.core) }
-    ensures part { IsSome result.session → result.status ≢ 7 → PutsPart (text_of (history_in result.session)) (K.told out.old) (K.told out.new) }
-    ensures run { IsSome result.session → result.status ≡ 7 → PutsRun (K.told out.old) (K.told out.new) }
+    ensures part { IsSome result.session → PutsPart (text_of (history_in result.session)) (K.told out.old) (K.told out.new) }
     ensures fit { IsSome result.session → AreFitFor lines.now (map D.size devices.items) (map D.told devices.items) }
     ensures unfit { result.status ≡ 3 → (fault : Refusal) × AreUnfitFor lines.now (map D.size result.devices.items) (map D.told result.devices.items) fault × Puts (refused_line fault) (K.told out.old) (K.told out.new) }
     ensures unread { result.status ≡ 4 → result.session ≡ None → HasFailed (map D.faults result.devices.items) × Puts (refused_line Refusal.NotBlank) (K.told out.old) (K.told out.new) }
@@ -368,10 +364,9 @@ fn run_session<D: Device + Drop, K: Sink>(
     ensures status { IsSessionStatus result.status }
     ensures ran { result.status ≢ 3 }
     ensures text { result.status ≡ 0 → K.told out.new ≡ option_map (λ bytes. bytes ++ text_of (history_in result.session)) (K.told out.old) }
-    ensures part { result.status ≢ 7 → PutsPart (text_of (history_in result.session)) (K.told out.old) (K.told out.new) }
-    ensures run { result.status ≡ 7 → PutsRun (K.told out.old) (K.told out.new) }
+    ensures part { PutsPart (text_of (history_in result.session)) (K.told out.old) (K.told out.new) }
     ensures goes_on { result.status ≡ 0 → GoesOn session.pool.history (history_in result.session) (commands_in lines.now) }
-    ensures went_on { result.status ≢ 7 → GoesPart session.pool.history (history_in result.session) (commands_in lines.now) }
+    ensures went_on { GoesPart session.pool.history (history_in result.session) (commands_in lines.now) }
     ensures session { IsSome result.session }
     ensures history { IfSome result.session (λ s. IsHistory s.pool.history s.pool.core.state) }
     ensures safe { IfSome result.session (λ s. s.pool.core.state.suspended ≡ false → IsSafe s.pool.core) }

@@ -9,7 +9,7 @@ ghost use Rattle.zs_io.specs.Told.{Told};
 ghost use Rattle.zscan.specs.Images.{AreFresh, HasFailed};
 ghost use Rattle.zs_core.specs.Commands.{commands_of};
 ghost use Rattle.zscan.specs.Session.{AreFitFor, AreUnfitFor, AreFirst, commands_in};
-ghost use Rattle.zscan.specs.Ending.{PutsRun, history_in, devices_in};
+ghost use Rattle.zscan.specs.Ending.{history_in, devices_in};
 ghost use Rattle.zscan.specs.Puts.{Puts, PutsPart, PutsRefusal, fault_line, refused_line};
 ghost use Rattle.zscan.specs.Step.{is_image, are_images, is_step, read_of, has_fault, fault_text, lines_in};
 
@@ -190,10 +190,9 @@ pub fn run_step<B: Bay, S: Source, K: Sink>(
     ensures sink { result.status ≡ 6 → Rose (K.faults out.old) (K.faults out.new) }
     ensures sink_kept { result.status ≢ 6 → K.faults out.new ≡ K.faults out.old }
     ensures text { result.status ≡ 0 → K.told out.new ≡ option_map (λ bytes. bytes ++ text_of (history_in result.session)) (K.told out.old) }
-    ensures part { IsSome result.session → result.status ≢ 7 → PutsPart (text_of (history_in result.session)) (K.told out.old) (K.told out.new) }
-    ensures run { IsSome result.session → result.status ≡ 7 → PutsRun (K.told out.old) (K.told out.new) }
+    ensures part { IsSome result.session → PutsPart (text_of (history_in result.session)) (K.told out.old) (K.told out.new) }
     ensures lines { result.status ≡ 0 → Told (S.left src.old) (λ script. commands_of (history_in result.session) ≡ commands_in (lines_in script)) }
-    ensures lines_cut { IsSome result.session → result.status ≢ 7 → Told (S.left src.old) (λ script. AreFirst (commands_of (history_in result.session)) (commands_in (lines_in script))) }
+    ensures lines_cut { IsSome result.session → Told (S.left src.old) (λ script. AreFirst (commands_of (history_in result.session)) (commands_in (lines_in script))) }
     ensures session { result.status ≡ 0 → IsSome result.session }
     ensures statuses { result.status ≤ 7 }
     ensures history { IfSome result.session (λ s. IsHistory s.pool.history s.pool.core.state) }

@@ -53,6 +53,7 @@ pub fn turn(pool: &mut Pool, by: u8) -> Result<Turned, BayFault>
     ensures nothing { result ≡ Ok Turned.Nothing → HasNoWork pool.new.core.scan.run × (pool.new.core ≡ pool.old.core) }
     ensures full { result ≡ Ok Turned.Full → IsFull pool.new.core.state.graph pool.new.core.scan × (pool.new.core ≡ pool.old.core) }
     ensures memory { OnErr result (result ≡ Err BayFault.Memory) }
+    ensures went_on { OnErr result (GoesOn pool.old.history pool.new.history []) }
 {
     match pool.walk(by) {
         Ok(turn) => Ok(outcome_of(turn)),
@@ -71,6 +72,7 @@ fn make_turns(pool: &mut Pool, by: u8, most: u32) -> Result<(u32, WalkEnd), BayF
     ensures few { IfOk result (λ walked. walked.0 ≤ most) }
     ensures why { IfOk result (λ walked. IsWhy pool.new.core most walked.0 walked.1) }
     ensures memory { OnErr result (result ≡ Err BayFault.Memory) }
+    ensures went_on { OnErr result (GoesOn pool.old.history pool.new.history []) }
 {
     for made in 0..most {
         match turn(pool, by) {
@@ -97,6 +99,7 @@ pub fn walk(alloc: Global, pool: &mut Pool, by: u8, turns: u32) -> Result<(), Ba
     ensures ready { OnOk result (IsReady pool.new) }
     ensures goes_on { OnOk result (GoesOn pool.old.history pool.new.history (Command.Walk turns ∷ [])) }
     ensures memory { OnErr result (result ≡ Err BayFault.Memory) }
+    ensures went_on { OnErr result (GoesOn pool.old.history pool.new.history []) }
 {
     let (made, why) = match make_turns(pool, by, turns) {
         Ok(walked) => walked,

@@ -15,8 +15,8 @@ loop-line-preserved g c = record {
 }
 
 pub returns-clause-part : goal.returns-clause-part
-returns-clause-part g c not = part_all (g.K.Sink.told c.args.out.now) (g.K.Sink.told c.loop-line.out) (text_of c.loop-line.pool.history) c.loop-line.invariant.told
+returns-clause-part g c = part_all (g.K.Sink.told c.args.out.now) (g.K.Sink.told c.loop-line.out) (text_of c.loop-line.pool.history) c.loop-line.invariant.told
 
 pub returns-in-Err-take_line-clause-went_on : goal.returns-in-Err-take_line-clause-went_on
-returns-in-Err-take_line-clause-went_on g c not =
-    part_of_lines c.args.pool.now.history c.loop-line.pool.history c.take_line.new.pool.history c.args.lines.now c.loop-line.line-index _ c.loop-line-test.true c.loop-line.invariant.goes_on (c.in-Err-take_line.ensures.went_on not)
+returns-in-Err-take_line-clause-went_on g c =
+    part_of_lines c.args.pool.now.history c.loop-line.pool.history c.take_line.new.pool.history c.args.lines.now c.loop-line.line-index _ c.loop-line-test.true c.loop-line.invariant.goes_on c.in-Err-take_line.ensures.went_on

@@ -10,4 +10,4 @@ pub returns-in-Err-Device-clause-failed : goal.returns-in-Err-Device-clause-fail
 returns-in-Err-Device-clause-failed g c = λ four. rw c.with-in-Err-Device.ensures.session (failed_back _ g.D.Device.size _ _ _ _ c.as_mut_slice.ensures.value c.as_mut_slice.ensures.len c.run_pool-outcome.ensures.sizes ((c.run_pool-outcome.ensures.cause.device (let here = rw c.in-Err-Device.is at c.in-Err-Device.field-0-is in c.in-Err-Device.is ∙ ap Err here)).0))
 
 pub returns-in-Ok-clause-went_on : goal.returns-in-Ok-clause-went_on
-returns-in-Ok-clause-went_on g c seven = rw c.with.ensures.session (part_whole _ _ _ c.in-Ok.ensures.goes_on)
+returns-in-Ok-clause-went_on g c = rw c.with.ensures.session (part_whole _ _ _ c.in-Ok.ensures.goes_on)

@@ -15,5 +15,5 @@ pub returns-in-Err-Memory-clause-cut : goal.returns-in-Err-Memory-clause-cut
 returns-in-Err-Memory-clause-cut g c none = refusal_none (g.K.Sink.told c.args.out.now)
 
 pub returns-in-Ok-clause-lines_cut : goal.returns-in-Ok-clause-lines_cut
-returns-in-Ok-clause-lines_cut g c some seven =
-    first_commands c.in-Ok.pool.history (history_in c.run_session.result.session) c.in-Some.first.now c.in-Some.others.now c.args.lines.now c.in-Some.ensures.cases.0 c.in-Ok.ensures.made (c.run_session.ensures.went_on seven)
+returns-in-Ok-clause-lines_cut g c some =
+    first_commands c.in-Ok.pool.history (history_in c.run_session.result.session) c.in-Some.first.now c.in-Some.others.now c.args.lines.now c.in-Some.ensures.cases.0 c.in-Ok.ensures.made c.run_session.ensures.went_on

@@ -84,6 +84,6 @@ returns-in-Ok-fetch_images-clause-lines g c status script told =
     subst (λ (lines : List Line). commands_of (history_in c.step_session.result.session) ≡ commands_in lines) (c.as_slice-in-Ok-fetch_images.ensures.value ∙ sym read) (c.step_session.ensures.lines status)
 
 pub returns-in-Ok-fetch_images-clause-lines_cut : goal.returns-in-Ok-fetch_images-clause-lines_cut
-returns-in-Ok-fetch_images-clause-lines_cut g c some seven script told =
+returns-in-Ok-fetch_images-clause-lines_cut g c some script told =
     let read : lines_in script ≡ c.in-Ok-parse.lines.items = lines_are c.as_slice.result.now script c.in-Ok-parse.lines.items (c.as_slice.ensures.value ∙ c.in-Ok.ensures.script script told) c.in-Ok-parse.ensures.exact in
-    subst (λ (lines : List Line). AreFirst (commands_of (history_in c.step_session.result.session)) (commands_in lines)) (c.as_slice-in-Ok-fetch_images.ensures.value ∙ sym read) (c.step_session.ensures.lines_cut some seven)
+    subst (λ (lines : List Line). AreFirst (commands_of (history_in c.step_session.result.session)) (commands_in lines)) (c.as_slice-in-Ok-fetch_images.ensures.value ∙ sym read) (c.step_session.ensures.lines_cut some)
