@@ -46,7 +46,8 @@ pub fn swap_law()
     ensures { SwapLaw }
 {}
 
-/// Each live piece of a valid graph is in one entry at home, of one dataset.
+/// Each live piece of a valid graph is in one entry at home, of one dataset, which is found by climbing from any dataset
+/// that holds the piece: up to it, each dataset holds this entry.
 pub fn home_law()
     ensures { HomeLaw }
 {}

@@ -6,7 +6,8 @@ use Rattle.zs_ids.specs.declared.key.Key.{Key}
 
 -- keys in lexicographic order of object, rank, leaf and depth
 abbrev pub key_cmp : Key → Key → Ordering
-key_cmp a b = ordering_then (nat_cmp a.object b.object) (ordering_then (nat_cmp a.rank b.rank) (ordering_then (nat_cmp a.leaf b.leaf) (nat_cmp a.depth b.depth)))
+key_cmp a b =
+    ordering_then (nat_cmp a.object b.object) (ordering_then (nat_cmp a.rank b.rank) (ordering_then (nat_cmp a.leaf b.leaf) (nat_cmp a.depth b.depth)))
 
 -- the key of a dataset's root block
 abbrev pub root_key : Key

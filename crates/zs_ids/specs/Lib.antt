@@ -1,4 +1,5 @@
 pub mod Key
+pub mod KeyLaws
 pub mod Blocks
 pub mod Graph
 pub mod GraphTree

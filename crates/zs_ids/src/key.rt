@@ -1,7 +1,9 @@
 //! The keys under which a dataset holds its blocks.
 
-ghost use Rattle.std.specs.Prelude.{◌≡◌, ◌<◌, ◌+◌, ◌-◌, ◌^◌};
-ghost use Rattle.zs_ids.specs.Key.{parent_of};
+ghost use Rattle.std.specs.Prelude.{◌≡◌, ◌<◌, ◌≤◌, ◌+◌, ◌-◌, ◌^◌, IfSome};
+ghost use Rattle.std.specs.declared.cmp.Ordering.TheVariants.{Less};
+ghost use Rattle.zs_ids.specs.Key.{key_cmp, parent_of};
+ghost use Rattle.zs_ids.specs.KeyLaws.{ParentLaw};
 
 /// Where a block stands in a dataset. Keys are ordered by object, rank, leaf and depth, so that a
 /// block comes before the blocks below it and a walk in order of key is one from the top.
@@ -43,7 +45,8 @@ impl Key {
     /// The key of the block that has this block's pointer, in an object of that many levels (1 to 4).
     /// `None` for the root.
     pub fn parent(self, levels: u8) -> Option<Key>
-        ensures { result ≡ parent_of self levels }
+        ensures table { result ≡ parent_of self levels }
+        ensures below { levels ≤ 4 → IfSome result (λ parent. key_cmp parent self ≡ Less) }
     {
         if self.rank == 0 {
             return if self.depth == 0 {
@@ -81,3 +84,8 @@ fn span_above(depth: u8) -> u32
         _ => 1,
     }
 }
+
+/// In an object of at most four levels the block that has a block's pointer comes before it.
+pub fn parent_law()
+    ensures { ParentLaw }
+{}

@@ -1,5 +1,6 @@
 //! Keys by the table of the blocks of a dataset, and lists in and out of a public type.
 
+use crate::key::parent_law;
 use crate::{Key, Seq};
 use std::test::Fail;
 
@@ -25,6 +26,8 @@ fn dnodes() -> Key {
 
 #[test]
 fn parents_lead_from_a_record_to_the_root(rt: HostRuntime) {
+    parent_law();
+    assert!(rt; block(128, 2) < block(130, 3) && dnodes() < block(0, 1) && Key::ROOT < dnodes());
     assert_eq!(rt; block(130, 3).parent(3), Some(block(128, 2)));
     assert_eq!(rt; block(128, 2).parent(3), Some(block(0, 1)));
     assert_eq!(rt; block(0, 1).parent(3), Some(dnodes()));

@@ -52,4 +52,5 @@ claims Canceled = false
 
 -- the state covers the graph: where it claims so, each live piece in scope is done, or its entry at home is ahead
 pub record Covers (g : Graph) (scope : Scope) (s : Phys) (done : Piece → Bool) : Type 0 where
-  pub covered : IsTrue (claims s.status) → (d : Dataset) (e : Key × Bp) (p : Piece) → IsHome g d e → Has (pieces_of e.1) p → IsTrue (in_scope scope p) → IsTrue (done p) ⊎ Ahead g s d.id e
+  pub covered : IsTrue (claims s.status) → (d : Dataset) (e : Key × Bp) (p : Piece) → IsHome g d e → Has (pieces_of e.1) p → IsTrue (in_scope scope p)
+      → IsTrue (done p) ⊎ Ahead g s d.id e

@@ -65,7 +65,10 @@ replaced_by id next s = record (with_places (instead id next) s) { again = s.aga
 
 -- a dataset without a child was destroyed: the bookmark is on none, and the queue lacks it
 abbrev pub dropped_from : DsId → Phys → Phys
-dropped_from id s = if is_on s.at id then record s { at = Destroyed; curmin = 0; curmax = 0; again = false; todo = dropped id s.todo } else record s { todo = dropped id s.todo }
+dropped_from id s =
+    if is_on s.at id
+    then record s { at = Destroyed; curmin = 0; curmax = 0; again = false; todo = dropped id s.todo }
+    else record s { todo = dropped id s.todo }
 
 -- what the event makes of the state
 abbrev pub handled : Event → Phys → Phys

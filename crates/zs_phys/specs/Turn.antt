@@ -41,8 +41,10 @@ pub data Comes (g : Graph) (scope : Scope) (s : Phys) : Step → Type 0 where
   rests : HasNoWork s → Comes g scope s steps.Nothing
   leaves : IsWalking s → s.at ≡ Destroyed → Comes g scope s steps.Skip
   skips : (q : Todo) (qs : List Todo) → IsWalking s → s.at ≡ Nowhere → s.todo ≡ q ∷ qs → scope.max ≤ max scope.min q.min → Comes g scope s steps.Skip
-  enters : (q : Todo) (qs : List Todo) → IsWalking s → s.at ≡ Nowhere → s.todo ≡ q ∷ qs → max scope.min q.min < scope.max → Comes g scope s (steps.Enter q.id q.min)
-  meets : (d : Dataset) (k : Key) (e : Key × Bp) → IsWalking s → Has g d → s.at ≡ ats.Dataset d.id k → first_from d.entries k s.curmin ≡ Some e → Comes g scope s (steps.At e.0 e.1)
+  enters : (q : Todo) (qs : List Todo) → IsWalking s → s.at ≡ Nowhere → s.todo ≡ q ∷ qs → max scope.min q.min < scope.max
+      → Comes g scope s (steps.Enter q.id q.min)
+  meets : (d : Dataset) (k : Key) (e : Key × Bp) → IsWalking s → Has g d → s.at ≡ ats.Dataset d.id k → first_from d.entries k s.curmin ≡ Some e
+      → Comes g scope s (steps.At e.0 e.1)
   ends : (d : Dataset) (k : Key) → IsWalking s → Has g d → s.at ≡ ats.Dataset d.id k → first_from d.entries k s.curmin ≡ None → Comes g scope s (steps.End d.id)
 
 -- the state at no dataset
@@ -74,7 +76,13 @@ queued_at_end g s id = if s.again then entry s.curmax id ∷ [] else map (entry 
 abbrev pub advanced : Graph → Scope → Phys → Step → Phys
 advanced g scope s steps.Nothing = s
 advanced g scope s steps.Skip = skipped s.at s
-advanced g scope s (steps.Enter id least) = record s { at = ats.Dataset id root_key; curmin = max scope.min least; curmax = end_of_pass (dataset_at g id) scope.max; again = false; todo = drop 1 s.todo }
+advanced g scope s (steps.Enter id least) = record s {
+  at = ats.Dataset id root_key;
+  curmin = max scope.min least;
+  curmax = end_of_pass (dataset_at g id) scope.max;
+  again = false;
+  todo = drop 1 s.todo;
+}
 advanced g scope s (steps.At k bp) = record s { at = behind s.at k }
 advanced g scope s (steps.End id) = record (left s) { todo = s.todo ++ queued_at_end g s id }
 

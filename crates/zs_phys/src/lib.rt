@@ -7,9 +7,9 @@
 //! `specs/Handlers` what an event does to a state, and `specs/Turn` what one turn of the walk does.
 //! Promise: each handler makes exactly its change of the state, and takes no memory.
 //!
-//! The walk, the scan, the record and the laws of coverage stand on this crate. To change what an event does see
-//! `handlers` and `specs/Handlers`, to change what is walked see `specs/Turn`, to change what a scan examines
-//! see `specs/Scope`.
+//! The walk, the scan and the laws of coverage stand on this crate. To change what an event does see the handlers of
+//! `Phys` and `specs/Handlers`, to change what is walked see `specs/Turn`, to change what a scan examines see
+//! `specs/Scope`.
 #![tactic(auto)]
 
 pub mod phys;

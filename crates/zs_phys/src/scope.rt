@@ -27,6 +27,6 @@ pub struct Scope {
     /// The number of devices of each mirror, 1 to 4.
     pub width: u8,
     /// For each device of the pool the transaction groups of which it may have lacked copies when the scan
-    /// started; empty sets for a scrub.
+    /// started; empty sets for a scrub, and where there was no scan yet.
     pub dirty0: Seq<TxgSet>,
 }

@@ -43,6 +43,20 @@ fn is_queue(todo: &Todos, want: &[(DsId, u64)]) -> bool {
 }
 
 #[test]
+fn a_queue_is_made_of_a_list_and_gives_it_back(rt: HostRuntime) -> Result<(), AllocError> {
+    let mut entries = Vec::with_capacity(rt.alloc(), 255)?;
+    entries.push_reserved(Todo { id: A, min: 3 });
+    entries.push_reserved(Todo { id: B, min: 0 });
+    let mut todo = Todos::from_vec(entries);
+    assert!(rt; is_queue(&todo, &[(A, 3), (B, 0)]));
+    todo.push(Todo { id: S, min: 7 });
+    let entries = todo.into_vec();
+    assert!(rt; entries.len() == 3 && entries[0] == Todo { id: A, min: 3 });
+    assert!(rt; is_queue(&Todos::from_vec(entries), &[(A, 3), (B, 0), (S, 7)]));
+    Ok(())
+}
+
+#[test]
 fn begins_idle(rt: HostRuntime) -> Result<(), AllocError> {
     let s = Phys::idle(rt.alloc())?;
     assert!(rt; s.status == Status::Never && !s.paused && s.at == At::Nowhere && !s.again);

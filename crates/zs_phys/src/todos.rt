@@ -1,6 +1,6 @@
 //! The queue of datasets.
 
-ghost use Rattle.std.specs.Prelude.{◌≡◌, ◌<◌, ◌≤◌, ◌++◌, ◌∷◌, [], drop, length, IfOk};
+ghost use Rattle.std.specs.Prelude.{◌≡◌, ◌<◌, ◌≤◌, ◌++◌, ◌∷◌, [], drop, length, vec_len, vec_capacity, IfOk};
 ghost use Rattle.zs_phys.specs.Handlers.{dropped, renamed, instead, exchanged};
 
 use std::alloc::{AllocError, Global};
@@ -41,6 +41,25 @@ impl Todos {
     {
         let entries = Vec::with_capacity(alloc, 255)?;
         Ok(Todos { entries })
+    }
+
+    /// The queue with these entries, in their own room, which is that of every dataset of a pool. Takes no memory.
+    pub fn from_vec(entries: Vec<Todo>) -> Self
+        requires few { vec_len entries ≤ 255 }
+        requires room { 255 ≤ vec_capacity entries }
+        ensures { result ≡ entries.items }
+    {
+        Todos { entries }
+    }
+
+    /// The entries, in the room in which they stood. Takes no memory.
+    pub fn into_vec(self) -> Vec<Todo>
+        ensures entries { result.items ≡ self }
+        ensures few { vec_len result ≤ 255 }
+        ensures room { 255 ≤ vec_capacity result }
+    {
+        let Todos { entries } = self;
+        entries
     }
 
     /// How many entries there are, at most 255.

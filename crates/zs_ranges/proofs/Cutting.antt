@@ -1,11 +1,10 @@
 -- Groups cut out of a set.
-use Rattle.std.proofs.Common.{◌≡◌, ◌≤◌, ◌<◌, ◌+◌, ◌||◌, ◌&&◌, ◌⊎◌, ℕ, Bool, true, false, List, [], ◌∷◌, length, get_or, drop, arith, refl, ap, sym, ◌∙◌}
-use Rattle.std.specs.Prelude.{not, nat_lt, nat_le}
+use Rattle.std.proofs.Common.{◌≡◌, ◌≤◌, ◌<◌, ◌+◌, ◌||◌, ◌&&◌, ◌⊎◌, ℕ, Bool, true, false, List, [], length, get_or, drop, arith, refl, ap, sym, ◌∙◌}
+use Rattle.std.specs.Prelude.{not, nat_lt}
 use Rattle.std.proofs.Math.Bool.{or-false, or_assoc, and-false}
-use Rattle.std.proofs.Math.Nat.{le_refl}
 use Rattle.std.proofs.lemmas.Bool.Decides.{nat_tests}
 use Rattle.zs_ranges.specs.declared.set.Interval.{Interval}
-use Rattle.zs_ranges.specs.Set.{has_txg, is_between, RisesFrom, IsCanonical, IsWithout}
+use Rattle.zs_ranges.specs.Set.{has_txg, is_between, IsCanonical, IsWithout}
 use Rattle.zs_ranges.specs.Build.{IsPutBehind, IsPutPart, BeginBy, IsCutting}
 use Rattle.zs_ranges.proofs.Rises.{by_weaker}
 use Rattle.zs_ranges.proofs.Merging.{rises_lower, rest_at}

@@ -1,4 +1,5 @@
 pub mod Cutting
+pub mod Gaps
 pub mod Joined
 pub mod Merging
 pub mod Rises

@@ -2,7 +2,6 @@
 use Rattle.std.proofs.Common.{◌≡◌, ◌≤◌, ◌<◌, ◌+◌, ◌||◌, ℕ, Bool, true, false, List, [], ◌∷◌, length, get_or, drop, arith, refl, ap, sym, subst, ◌∙◌}
 use Rattle.std.proofs.lemmas.List.{drop_more}
 use Rattle.std.proofs.Math.Bool.{or-false, or_assoc}
-use Rattle.std.proofs.Math.Nat.{le_refl}
 use Rattle.zs_ranges.specs.declared.set.Interval.{Interval}
 use Rattle.zs_ranges.specs.Set.{has_txg, is_between, RisesFrom, IsCanonical}
 use Rattle.zs_ranges.specs.Build.{IsPutBehind, IsUnion, StartsBelow, BeginBy, IsMerging}

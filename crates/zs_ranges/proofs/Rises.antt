@@ -1,5 +1,5 @@
 -- Rising intervals, one more at the end.
-use Rattle.std.proofs.Common.{◌≡◌, ◌≤◌, ◌<◌, ◌+◌, ◌-◌, ◌⊎◌, ◌||◌, ℕ, Bool, true, false, List, [], ◌∷◌, ◌++◌, length, get_or, set, take, drop, arith, refl, subst, ap, sym, ◌∙◌, inl, inr}
+use Rattle.std.proofs.Common.{◌≡◌, ◌≤◌, ◌<◌, ◌+◌, ◌-◌, ◌⊎◌, ◌||◌, ℕ, Bool, true, false, List, [], ◌∷◌, ◌++◌, length, get_or, set, take, arith, refl, subst, ap, sym, ◌∙◌, inl, inr}
 use Rattle.std.proofs.lemmas.Bool.{false≢true}
 use Rattle.std.proofs.Math.Bool.{or-false, or-true, or_assoc}
 use Rattle.std.specs.Prelude.{nat_le, Some, slice_get}
@@ -12,7 +12,7 @@ use Rattle.std.proofs.lemmas.Bool.Decides.{nat_tests}
 use Rattle.std.proofs.lemmas.List.Folds.{list_any-append}
 use Rattle.zs_ranges.specs.declared.set.Interval.{Interval}
 use Rattle.zs_ranges.specs.Set.{has_txg, is_between, RisesFrom, IsCanonical}
-use Rattle.zs_ranges.specs.Build.{IsPutBehind, IsUnion, StartsBelow, BeginBy}
+use Rattle.zs_ranges.specs.Build.{IsPutBehind, BeginBy}
 
 -- the least group at which one more interval may begin
 abbrev gap_from : ℕ → List Interval → ℕ

@@ -1,10 +1,10 @@
 -- A set of transaction groups has one list of intervals.
-use Rattle.std.proofs.Common.{◌≡◌, ◌≢◌, ◌≤◌, ◌<◌, ◌+◌, ◌⊎◌, ◌||◌, ℕ, Bool, true, false, List, [], ◌∷◌, arith, refl, ap, sym, subst, ◌∙◌, inl, inr}
+use Rattle.std.proofs.Common.{◌≡◌, ◌≤◌, ◌<◌, ◌+◌, ◌⊎◌, ◌||◌, ℕ, Bool, true, false, List, [], ◌∷◌, arith, refl, ap, sym, subst, ◌∙◌, inl, inr}
 use Rattle.std.proofs.lemmas.Bool.{false≢true, false_from_ne_true}
 use Rattle.std.proofs.lemmas.Bool.Decides.{nat_tests}
 use Rattle.std.proofs.Math.Nat.{le_refl}
 use Rattle.zs_ranges.specs.declared.set.Interval.{Interval}
-use Rattle.zs_ranges.specs.Set.{has_txg, is_between, RisesFrom, IsCanonical, SameSetLaw}
+use Rattle.zs_ranges.specs.Set.{has_txg, is_between, RisesFrom, SameSetLaw}
 use Rattle.zs_ranges.proofs.Rises.{has_above}
 
 between_is : (a b t : ℕ) → a ≤ t → t ≤ b → is_between a b t ≡ true

@@ -1,2 +1,3 @@
 pub mod Build
 pub mod Set
+pub mod Joining

@@ -1,6 +1,6 @@
 -- Sets of transaction groups as rising lists of intervals, after `range_tree_t` of OpenZFS (the dirty time logs
 -- of `vdev.c`).
-use Rattle.std.specs.Prelude.{◌≡◌, ◌≤◌, ◌+◌, ◌-◌, ℕ, Bool, true, false, nat_le, ◌&&◌, ◌||◌, not, List, [], ◌∷◌, zero, suc, length}
+use Rattle.std.specs.Prelude.{◌≡◌, ◌≤◌, ◌+◌, ◌-◌, ℕ, Bool, nat_le, ◌&&◌, ◌||◌, not, List, [], ◌∷◌, zero, suc, length}
 use Rattle.std.specs.List.{list_any}
 use Rattle.zs_ranges.specs.declared.set.Interval.{Interval}
 

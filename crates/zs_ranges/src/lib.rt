@@ -6,7 +6,8 @@
 //! set has it.
 //! Promise: `add`, `cut` and `join` give the set with, without and united, and leave it as it was after want of
 //! memory. Equal sets have equal lists (`same_set_law`), so what a contract says of the groups fixes the list.
-//! `join_lowest` bounds a log: it joins the two lowest intervals, gap included, until few enough are left.
+//! `join_lowest` bounds a log: it joins the two lowest intervals, gap included, until few enough are left. So it loses
+//! no group, and gains those gaps and nothing else (`joined_law`).
 //!
 //! The dirty logs of devices, the scope of a resilver and the births of failed copies are such sets. To change
 //! what a set does see `set`; how lists are merged and cut stands in `merge`. Each call costs time in the number
@@ -17,7 +18,7 @@ pub mod laws;
 mod merge;
 pub mod set;
 
-pub use laws::same_set_law;
+pub use laws::{joined_law, same_set_law};
 pub use set::{Interval, TxgSet};
 
 #[cfg(test)]

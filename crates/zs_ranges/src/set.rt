@@ -174,4 +174,11 @@ impl TxgSet {
         };
         self.spans.drain(..more);
     }
+
+    /// Takes all groups out. Takes no memory.
+    pub fn clear(&mut self)
+        ensures { self.new ≡ [] }
+    {
+        self.spans.clear();
+    }
 }

@@ -1,6 +1,6 @@
 //! Each call once, with values worked out by hand.
 
-use crate::{TxgSet, same_set_law};
+use crate::{TxgSet, joined_law, same_set_law};
 use std::test::Fail;
 
 fn set_of(rt: &HostRuntime, spans: &[(u64, u64)]) -> Result<TxgSet, Fail> {
@@ -66,6 +66,7 @@ fn tells_what_it_has(rt: HostRuntime) -> Result<(), Fail> {
     let set = set_of(&rt, &[(3, 4), (8, 9)])?;
     set.facts();
     same_set_law();
+    joined_law();
     assert!(rt; set.least() == Some(3) && set.greatest() == Some(9));
     for (t, want) in [
         (2, false),

@@ -1,4 +1,4 @@
-use Rattle.std.proofs.Common.{◌≤◌, arith, ap, sym, ◌∙◌}
+use Rattle.std.proofs.Common.{arith}
 use Rattle.zs_ranges.proofs.Rises.{by_weaker}
 use Rattle.zs_ranges.proofs.Cutting.{put_none_above, put_part_above}
 use Rattle.zs_ranges.proofs.merge.put_above.Goals as goal

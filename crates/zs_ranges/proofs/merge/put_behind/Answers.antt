@@ -1,5 +1,4 @@
-use Rattle.std.proofs.Common.{◌≡◌, ◌≤◌, ◌<◌, ◌+◌, ◌⊎◌, ℕ, length, arith, refl, rules}
-use Rattle.std.proofs.lemmas.Grind.{common_steps}
+use Rattle.std.proofs.Common.{arith, refl}
 use Rattle.zs_ranges.proofs.Rises.{put_over, put_after}
 use Rattle.zs_ranges.proofs.merge.put_behind.Goals as goal
 

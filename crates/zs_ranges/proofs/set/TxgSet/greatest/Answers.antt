@@ -1,4 +1,3 @@
-use Rattle.std.proofs.Common.{sym}
 use Rattle.zs_ranges.proofs.Rises.{has_last, last_above}
 use Rattle.zs_ranges.proofs.set.TxgSet.greatest.Goals as goal
 

@@ -1,4 +1,4 @@
-use Rattle.std.proofs.Common.{◌≡◌, arith, ◌∙◌, sym, subst}
+use Rattle.std.proofs.Common.{arith, ◌∙◌, sym, subst}
 use Rattle.zs_ranges.specs.Set.{IsCanonical}
 use Rattle.zs_ranges.proofs.Joined.{joined_by_set, joined_canonical}
 use Rattle.zs_ranges.proofs.set.TxgSet.join_lowest.Goals as goal
