@@ -6,7 +6,8 @@
 //! Model: a `PlainDataset` is seen as the dataset of the definitions, and a slice of them as a graph.
 //! Promise: a test answers true exactly where the definition holds, and what is computed is what the definition has,
 //! all of it and nothing else. The tests run worked examples through it, with events between the turns of a
-//! walk, and states that lose blocks, so that a definition that says something else than it should shows.
+//! walk, states that lose blocks, and graphs and states that are refused for one thing, so that a definition that says
+//! something else than it should shows.
 //!
 //! Where a definition changes, its test in `specs/` and the proof in `proofs/` that the test decides it change too:
 //! `graph` and `tree` for what is live and at home, `ahead` for coverage, `sound` for states, `turn` for the walk,

@@ -1,7 +1,10 @@
 //! Worked examples, run through the definitions: graphs by hand, the turns of a walk, and the events between them.
 
+mod ends;
 mod examples;
 mod graphs;
+mod refused;
+mod scopes;
 mod valid;
 mod wrong;
 

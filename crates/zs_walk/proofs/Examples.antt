@@ -119,7 +119,7 @@ origin_valid = record {
 }
 
 may_start : (max h : ℕ) → max ≤ h → MayStart h (scrub_up_to max)
-may_start max h le = record { runs = λ e. cc; ends = omega (arith, le); logs = λ other log h. absurd h }
+may_start max h le = record { runs = λ e. cc; ends = omega (arith, le); logs = λ other log h. elim h [ inl is ↦ sym is | inr later ↦ elim later [ inl is ↦ sym is | inr none ↦ absurd none ] ] }
 
 -- a filesystem is made in 2
 empty_head : IsCovered room (one_head []) 2 2 (scrub_up_to 1) (started 0) (λ p. true)

@@ -18,7 +18,14 @@ abbrev pub sector_at : ℕ → Place
 sector_at sector = record { vdev = 0; sector = sector }
 
 unfoldable pub block : ℕ → ℕ → ℕ → Bp
-block sector sectors level = record { count = 1; places = sector_at sector ∷ sector_at 0 ∷ sector_at 0 ∷ []; sectors = sectors; birth = 3; level = level; sum = replicate 32 0 }
+block sector sectors level = record {
+  count = 1;
+  places = sector_at sector ∷ sector_at 0 ∷ sector_at 0 ∷ [];
+  sectors = sectors;
+  birth = 3;
+  level = level;
+  sum = replicate 32 0;
+}
 
 -- a root, its block of dnodes, and record 0 of object 1, born in 3
 abbrev pub one_record : List (Key × Bp)
@@ -52,6 +59,6 @@ head_and_snapshot head snapshot = origin ∷ head_with snapshot_id head ∷ snap
 abbrev pub room : Room
 room = record { start = 296; ends = 512 ∷ []; blocks = 64 }
 
--- a scrub of what is born before a transaction group
+-- a scrub of what is born before a transaction group, in a pool of one mirror of two devices
 abbrev pub scrub_up_to : ℕ → Scope
-scrub_up_to max = record { kind = Scrub; min = 0; max = max; width = 2; dirty0 = [] }
+scrub_up_to max = record { kind = Scrub; min = 0; max = max; width = 2; dirty0 = [] ∷ [] ∷ [] }

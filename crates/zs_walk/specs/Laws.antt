@@ -28,4 +28,6 @@ pub record Rises (g : Graph) (scope : Scope) (from k : Key) (t : Phys) : Type 0 
 
 -- at a dataset the key rises at each block
 abbrev pub RisesLaw : Type 0
-RisesLaw = (g : Graph) (scope : Scope) (s t : Phys) (id : DsId) (from k : Key) (bp : Bp) → s.at ≡ ats.Dataset id from → Comes g scope s (steps.At k bp) → t ≡ advanced g scope s (steps.At k bp) → Rises g scope from k t
+RisesLaw =
+    (g : Graph) (scope : Scope) (s t : Phys) (id : DsId) (from k : Key) (bp : Bp) → s.at ≡ ats.Dataset id from → Comes g scope s (steps.At k bp)
+    → t ≡ advanced g scope s (steps.At k bp) → Rises g scope from k t

@@ -45,7 +45,8 @@ blocks_from entries from = length (filter (λ e. is_le (key_cmp from e.0)) entri
 abbrev pub turns_here : Graph → Bool → At → ℕ
 turns_here g again ats.Nowhere = 0
 turns_here g again ats.Destroyed = 1
-turns_here g again (ats.Dataset id from) = blocks_from (entries_of (dataset_at g id)) from + 1 + (if again then turns_at g id else (if is_id id ORIGIN then turns_over_heads g else 0))
+turns_here g again (ats.Dataset id from) =
+    blocks_from (entries_of (dataset_at g id)) from + 1 + (if again then turns_at g id else (if is_id id ORIGIN then turns_over_heads g else 0))
 
 -- how many turns are left at most
 abbrev pub turns_left : Graph → Phys → ℕ

@@ -11,6 +11,7 @@ use std::alloc::{AllocError, Global};
 use zs_flat::Flat;
 use zs_ids::{Blocks, Bp, DsId, Key, Place, Seq};
 use zs_phys::{At, Kind, Phys, Scope, Status, Step, Todo};
+use zs_ranges::TxgSet;
 
 const HEAD: DsId = DsId(1);
 
@@ -138,16 +139,19 @@ fn blocks(alloc: Global) -> Result<Flat, AllocError>
 }
 
 /// A scrub of what is born before that transaction group.
-fn scrub(alloc: Global, max: u64) -> Scope
-    ensures { result ≡ scrub_up_to max }
+fn scrub(alloc: Global, max: u64) -> Result<Scope, AllocError>
+    ensures { IfOk result (λ s. s ≡ scrub_up_to max) }
 {
-    Scope {
+    let mut dirty0 = Seq::new(alloc);
+    dirty0.push(TxgSet::new(alloc))?;
+    dirty0.push(TxgSet::new(alloc))?;
+    Ok(Scope {
         kind: Kind::Scrub,
         min: 0,
         max,
         width: 2,
-        dirty0: Seq::new(alloc),
-    }
+        dirty0,
+    })
 }
 
 /// A scan that has just started, with no device offline.
@@ -183,7 +187,7 @@ fn walks_a_head_in_seven_turns(rt: HostRuntime) -> Result<(), AllocError> {
     let graph = OneHead {
         head: blocks(rt.alloc())?,
     };
-    let scope = scrub(rt.alloc(), 4);
+    let scope = scrub(rt.alloc(), 4)?;
     let mut phys = start(rt.alloc())?;
     let turns = [
         Step::Enter(DsId::ORIGIN, 0),
@@ -208,7 +212,7 @@ fn walks_shared_blocks_once(rt: HostRuntime) -> Result<(), AllocError> {
         head: blocks(rt.alloc())?,
         snapshot: blocks(rt.alloc())?,
     };
-    let scope = scrub(rt.alloc(), 6);
+    let scope = scrub(rt.alloc(), 6)?;
     let mut phys = start(rt.alloc())?;
     let turns = [
         Step::Enter(DsId::ORIGIN, 0),

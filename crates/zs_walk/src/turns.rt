@@ -54,6 +54,15 @@ pub fn advance<G: Datasets>(graph: &G, scope: &Scope, phys: &mut Phys, step: &St
     ensures turn { phys.new ≡ advanced (G.datasets graph.now) scope.now phys.old step.now }
     ensures goes_on { MayWalk (G.datasets graph.now) scope.now phys.new }
 {
+    make(graph, scope, phys, step);
+}
+
+/// Makes the turn's change of the state.
+fn make<G: Datasets>(graph: &G, scope: &Scope, phys: &mut Phys, step: &Step)
+    requires state { MayWalk (G.datasets graph.now) scope.now phys.old }
+    requires comes { Comes (G.datasets graph.now) scope.now phys.old step.now }
+    ensures { phys.new ≡ advanced (G.datasets graph.now) scope.now phys.old step.now }
+{
     match *step {
         Step::Nothing => {}
         Step::Skip => skip(phys),
