@@ -1,7 +1,8 @@
 -- What follows from a list of calls: sizes stay, the bytes as they read are one of the images, and one call more.
-use Rattle.std.proofs.Common.{◌≡◌, ◌⊎◌, inl, inr, ℕ, zero, suc, ◌+◌, ◌≤◌, List, [], ◌∷◌, ◌++◌, Some, length, take, drop, get_or, refl, sym, ◌∙◌, ap, subst, arith, length-take}
+use Rattle.std.proofs.Common.{◌≡◌, ◌⊎◌, inl, inr, ℕ, zero, suc, ◌+◌, ◌≤◌, ◌<◌, List, [], ◌∷◌, ◌++◌, Some, length, take, drop, get_or, refl, sym, ◌∙◌, ap, subst, arith, length-take}
 use Rattle.std.proofs.lemmas.List.{take_all}
-use Rattle.zs_io.specs.Told.{Torn, over}
+use Rattle.std.proofs.lemmas.List.Elements.{All-nil, All-cons, All-head, All-tail, All-take}
+use Rattle.zs_io.specs.Told.{AreBytes, Torn, over}
 use Rattle.zs_io.specs.Calls.{overlaid, after_call, after_calls, left_by, left_after, Kept, bytes_of, images_of, images_since}
 use Rattle.zs_io.specs.declared.disk.Call.{Call}
 use Rattle.zs_io.specs.declared.disk.Call.TheVariants.{Looked, Wrote, Synced}
@@ -42,6 +43,18 @@ overlaid_single at [] k old one = absurd (omega arith)
 overlaid_single at (b ∷ bytes) zero old one = inl (ap (λ (l : List ℕ). get_or l at 0) (overlaid-nil at old))
 overlaid_single at (b ∷ bytes) (suc k) old one = overlaid_one at b (take k bytes) old
 
+abbrev IsByte : ℕ → Type 0
+IsByte b = b < 256
+
+overlaid_bytes : (at : ℕ) (bytes old : List ℕ) → AreBytes bytes → AreBytes old → AreBytes (overlaid at bytes old)
+overlaid_bytes at bytes [] are were = All-nil IsByte
+overlaid_bytes zero [] (x ∷ old) are were = were
+overlaid_bytes zero (b ∷ bytes) (x ∷ old) are were =
+    let rest : AreBytes (overlaid zero bytes old) = overlaid_bytes zero bytes old (All-tail IsByte b bytes are) (All-tail IsByte x old were) in
+    All-cons IsByte b (overlaid zero bytes old) (All-head IsByte b bytes are) rest
+overlaid_bytes (suc at) bytes (x ∷ old) are were =
+    All-cons IsByte x (overlaid at bytes old) (All-head IsByte x old were) (overlaid_bytes at bytes old are (All-tail IsByte x old were))
+
 -- a write of which the first k bytes reached the device tears no more than its range
 pub overlaid_torn : (at : ℕ) (bytes : List ℕ) (k : ℕ) (old : List ℕ) → Torn at bytes old (overlaid at (take k bytes) old)
 overlaid_torn at bytes k old = record {
@@ -49,6 +62,7 @@ overlaid_torn at bytes k old = record {
   before = overlaid-take at (take k bytes) old;
   after = overlaid-drop at (take k bytes) old (at + length bytes) (omega (arith, length-take k bytes));
   single = overlaid_single at bytes k old;
+  values = λ are were. overlaid_bytes at (take k bytes) old (All-take IsByte k bytes are) were;
 }
 
 overlaid_to : (at : ℕ) (bytes old : List ℕ) (m : ℕ) → at + length bytes ≡ m → m ≤ length old → overlaid at bytes old ≡ take at old ++ bytes ++ drop m old
@@ -104,7 +118,8 @@ fits_by Synced now could fit c left = ap length left
 fits_after : (calls : List Call) (now : List ℕ) (could : List ℕ → Type 0) → ((c : List ℕ) → could c → length c ≡ length now)
     → (c : List ℕ) → left_after calls now could c → length c ≡ length now
 fits_after [] now could fit c left = fit c left
-fits_after (e ∷ calls) now could fit c left = fits_after calls (after_call e now) (left_by e now could) (fits_by e now could fit) c left ∙ after_call-length e now
+fits_after (e ∷ calls) now could fit c left =
+    fits_after calls (after_call e now) (left_by e now could) (fits_by e now could fit) c left ∙ after_call-length e now
 
 module _ (kept : Kept) where
   -- the bytes as they read are as many as at first

@@ -1,7 +1,7 @@
 -- The calls that a memory device keeps, what a read gives after them, and what a crash may leave.
-use Rattle.std.specs.Prelude.{◌≡◌, ◌≤◌, ℕ, List, [], ◌∷◌, ◌++◌, length, take, zero, suc, Bool, ◌||◌, ◌==◌, nat_le}
+use Rattle.std.specs.Prelude.{◌≡◌, ◌≤◌, ℕ, List, [], ◌∷◌, ◌++◌, length, take, zero, suc, All, Bool, ◌||◌, ◌==◌, nat_le}
 use Rattle.std.specs.List.{list_any}
-use Rattle.zs_io.specs.Told.{Torn}
+use Rattle.zs_io.specs.Told.{Torn, AreBytes}
 use Rattle.zs_io.specs.declared.disk.Call.{Call}
 use Rattle.zs_io.specs.declared.disk.Call.TheVariants.{Looked, Wrote, Synced}
 
@@ -52,6 +52,16 @@ images_of kept c = left_after kept.calls kept.first (λ d. d ≡ kept.first) c
 -- what a crash might have left after the first k calls, for some k from t on
 unfoldable pub images_since : Kept → ℕ → List ℕ → Type 0
 images_since kept t c = (k : ℕ) × (t ≤ k) × (k ≤ length kept.calls) × left_after (take k kept.calls) kept.first (λ d. d ≡ kept.first) c
+
+-- the bytes that a call has written or tried to write
+abbrev pub written : Call → List ℕ
+written Looked = []
+written (Wrote at bytes kept) = bytes
+written Synced = []
+
+-- all that was ever put on the device is bytes
+abbrev pub HaveBytes : Kept → Type 0
+HaveBytes kept = AreBytes kept.first × All (λ c. AreBytes (written c)) kept.calls
 
 -- one call more
 abbrev pub with_call : Kept → Call → Kept

@@ -1,7 +1,9 @@
 pub mod Told
+pub mod Asked
 pub mod Faults
 pub mod Crash
 pub mod Calls
 pub mod CallLaws
+pub mod ByteLaws
 pub mod Ranges
 pub mod Moments

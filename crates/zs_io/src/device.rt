@@ -1,6 +1,7 @@
 // Devices, and the bay from which they are fetched.
 ghost use Rattle.std.specs.Prelude.{◌≡◌, ◌≤◌, ◌+◌, ◌∷◌, ℕ, List, Option, length, option_map, slice_range, IfOk, OnOk, OnErr, IsErrOf};
-ghost use Rattle.zs_io.specs.Told.{Told, BothTold, Torn, over};
+ghost use Rattle.zs_io.specs.Told.{Told, BothTold, AreBytes, Torn, over};
+ghost use Rattle.zs_io.specs.Asked.{HasAsked};
 ghost use Rattle.zs_io.specs.Crash.{Follows, NoMore, Only, Elapses};
 ghost use Rattle.zs_io.specs.Faults.{HasCause};
 
@@ -70,6 +71,12 @@ pub trait Device {
     /// Each image that a crash may leave has the device's size.
     ghost images_fit: { (device : Self) (c : List ℕ) → may_leave device c → length c ≡ size device };
 
+    /// Each image that a crash may leave is of bytes, and so is what a read gives, which is one of them.
+    ghost images_are_bytes: { (device : Self) (c : List ℕ) → may_leave device c → AreBytes c };
+
+    /// So is each image that a crash might have left since a moment.
+    ghost past_is_bytes: { (device : Self) (t : ℕ) (c : List ℕ) → left_since device t c → AreBytes c };
+
     /// This moment is one of those since an earlier one.
     ghost counts_now: { (device : Self) (t : ℕ) (c : List ℕ) → t ≤ moment device → may_leave device c → left_since device t c };
 
@@ -85,14 +92,19 @@ pub trait Bay {
     /// The devices that are left, where the bay tells them.
     ghost left: { Self → Option (List Self.Dev) };
 
+    /// The names that the bay was asked for, in order and as bytes, where the bay tells them.
+    ghost asked: { Self → Option (List (List ℕ)) };
+
     /// How often a fetch has failed.
     ghost faults: { Self → ℕ };
 
     /// Takes out the first of the devices that are left and gives it as it stands there, with no fault counted yet.
-    /// A fetch that fails leaves them.
+    /// A fetch that fails leaves them. Whether it fails or not, the bay was asked for this name, but where memory was
+    /// wanting.
     fn fetch(&mut self, name: &str) -> Result<Self::Dev, BayFault>
         ensures first { IfOk result (λ d. left self.old ≡ option_map (λ rest. d ∷ rest) (left self.new)) }
         ensures fresh { IfOk result (λ d. Self.Dev.faults d ≡ 0) }
         ensures err { OnErr result (left self.new ≡ left self.old) }
+        ensures asked { HasAsked name.now (asked self.old) (asked self.new) result }
         ensures cause { HasCause (faults self.old) (faults self.new) result };
 }

@@ -2,7 +2,7 @@
 ghost use Rattle.std.specs.Prelude.{◌≡◌, ◌≤◌, ◌+◌, ◌∷◌, ◌++◌, [], List, ℕ, length, take, slice_range, OnOk, OnErr};
 ghost use Rattle.zs_io.specs.Told.{Torn, over};
 ghost use Rattle.zs_io.specs.Crash.{Follows, NoMore, Only, Elapses};
-ghost use Rattle.zs_io.specs.Calls.{bytes_of, images_of, images_since, with_call};
+ghost use Rattle.zs_io.specs.Calls.{bytes_of, images_of, images_since, with_call, HaveBytes};
 
 use std::alloc::{AllocError, Global};
 use std::marker::Model;
@@ -60,6 +60,7 @@ impl Disk {
         ensures calls { result.calls ≡ [] }
         ensures now { bytes_of result ≡ bytes.items }
         ensures durable { Only bytes.items (images_of result) }
+        ensures bytes { HaveBytes result }
     {
         Disk {
             alloc,
@@ -114,6 +115,7 @@ impl Disk {
         ensures ok { OnOk result (self.new ≡ with_call self.old Call.Looked) }
         ensures err { OnErr result (self.new ≡ self.old) }
         ensures first { self.new.first ≡ self.old.first }
+        ensures bytes { HaveBytes self.old → HaveBytes self.new }
         ensures now { bytes_of self.new ≡ bytes_of self.old }
         ensures crash { NoMore (images_of self.old) (images_of self.new) }
         ensures time { Elapses (length self.old.calls) (length self.new.calls) (images_since self.old) (images_since self.new) (images_of self.new) }
@@ -129,6 +131,7 @@ impl Disk {
         ensures ok { OnOk result (self.new ≡ with_call self.old (Call.Wrote at bytes.now kept)) }
         ensures err { OnErr result (self.new ≡ self.old) }
         ensures first { self.new.first ≡ self.old.first }
+        ensures bytes { HaveBytes self.old → HaveBytes self.new }
         ensures torn { Torn at bytes.now (bytes_of self.old) (bytes_of self.new) }
         ensures whole { OnOk result (kept ≡ length bytes.now → bytes_of self.new ≡ over at bytes.now (bytes_of self.old)) }
         ensures part { OnOk result (bytes_of self.new ≡ over at (take kept bytes.now) (bytes_of self.old)) }
@@ -150,6 +153,7 @@ impl Disk {
         ensures ok { OnOk result (self.new ≡ with_call self.old Call.Synced) }
         ensures err { OnErr result (self.new ≡ self.old) }
         ensures first { self.new.first ≡ self.old.first }
+        ensures bytes { HaveBytes self.old → HaveBytes self.new }
         ensures now { bytes_of self.new ≡ bytes_of self.old }
         ensures durable { OnOk result (Only (bytes_of self.old) (images_of self.new)) }
         ensures crash { NoMore (images_of self.old) (images_of self.new) }

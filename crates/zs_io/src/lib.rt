@@ -5,6 +5,7 @@
 //! Model: content is optional. A source, sink, bay or device *tells* what it holds as an `Option`: what is in memory tells
 //! it, a file or a stream tells `None`, and a clause on content holds where it is told. A device also has the
 //! images that a crash may leave on it (`may_leave`) and those that it might have left since a moment (`left_since`).
+//! A bay tells in the same way which names it was asked for.
 //! Each object has a count of its faults: a call fails only where the count rises, and else leaves it.
 //! Promise: what each call does to the content, to the crash images and to the count, as the traits' clauses say.
 //!
@@ -121,6 +122,25 @@ mod tests {
             }
         }
         assert!(rt; bay.fetch("image").is_err());
+        Ok(())
+    }
+
+    #[test]
+    fn a_bay_keeps_the_names_that_it_was_asked_for(rt: HostRuntime) -> Result<(), Fail> {
+        let alloc = rt.alloc();
+        let bytes = Vec::from_slice(alloc, &[1])?;
+        let device = MemDevice::new(alloc, bytes, Vec::new(alloc), u64::MAX, false);
+        let mut bay = MemBay::new(Vec::from_array(alloc, [device])?);
+        assert!(rt; bay.asked().is_empty());
+        assert!(rt; bay.fetch("first.img").is_ok());
+        assert_eq!(rt; bay.fetch("second.img").err(), Some(BayFault::Failed));
+        match bay.asked() {
+            [first, second] => {
+                assert_eq!(rt; first.as_str(), "first.img");
+                assert_eq!(rt; second.as_str(), "second.img");
+            }
+            _ => assert!(rt; false),
+        }
         Ok(())
     }
 

@@ -3,8 +3,9 @@ ghost use Rattle.std.specs.Prelude.{◌≡◌, ◌≤◌, ◌+◌, ◌<◌, ◌/
 ghost use Rattle.zs_io.specs.Told.{Told, BothTold, Torn, over};
 ghost use Rattle.zs_io.specs.Crash.{Follows, NoMore, Only, Elapses};
 ghost use Rattle.zs_io.specs.Faults.{HasCause};
-ghost use Rattle.zs_io.specs.Calls.{bytes_of, images_of, images_since, with_call, fails_at};
+ghost use Rattle.zs_io.specs.Calls.{bytes_of, images_of, images_since, with_call, HaveBytes, fails_at};
 ghost use Rattle.zs_io.specs.CallLaws.{told_is_kept, images_of_fit, images_count_now, images_only_now};
+ghost use Rattle.zs_io.specs.ByteLaws.{images_of_bytes, images_since_bytes};
 
 use crate::disk::{Call, Disk};
 use crate::{BayFault, Device};
@@ -20,6 +21,7 @@ pub struct MemDevice {
     from: u64,
     torn: bool,
     faults: u64,
+    ghost bytes: { HaveBytes disk },
 }
 
 impl MemDevice {
@@ -159,6 +161,10 @@ impl Device for MemDevice {
     ghost told_is = { λ m. told_is_kept m.disk };
 
     ghost images_fit = { λ m c left. images_of_fit m.disk c left };
+
+    ghost images_are_bytes = { λ m c left. images_of_bytes m.disk m.bytes c left };
+
+    ghost past_is_bytes = { λ m t c left. images_since_bytes m.disk m.bytes t c left };
 
     ghost counts_now = { λ m t c le left. images_count_now m.disk t c le left };
 

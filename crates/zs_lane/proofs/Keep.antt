@@ -5,7 +5,7 @@ use Rattle.std.proofs.lemmas.List.{take_all, take-append-le, take-append-drop, a
 use Rattle.std.proofs.lemmas.Bool.{cases_lt}
 use Rattle.std.proofs.lemmas.Bool.Decides.{nat_tests}
 use Rattle.zs_sum.specs.Sum.{sha256}
-use Rattle.zs_io.specs.Told.{Told, BothTold, over}
+use Rattle.zs_io.specs.Told.{BothTold, over}
 use Rattle.zs_io.specs.Ranges.{over_torn, over_reads, torn_before, torn_after}
 use Rattle.zs_lane.specs.declared.mark.Mark.{Mark}
 use Rattle.zs_lane.specs.declared.mark.Mark.TheVariants.{Read, Wrote, Synced, Failed}

@@ -1,5 +1,6 @@
 -- A set of devices with journals: what stays of a device that a call is not for, and a list of lanes as such a set.
 use Rattle.std.specs.Prelude.{◌≡◌, ℕ, ◌≤◌, List, length, Option, None, Some}
+use Rattle.zs_io.specs.Told.{AreBytes}
 use Rattle.zs_io.specs.Crash.{NoMore}
 
 -- what a crash may leave now, and might have left since a moment, is as it was
@@ -32,6 +33,16 @@ module _ {L : Type 0} where
       → (o : Option L) (c : List ℕ) → AtLane (λ l. leaves l c) o → length c ≡ of_lane 0 size o
   at_fit size leaves law None c left = absurd left
   at_fit size leaves law (Some l) c left = law l c left
+
+  pub at_bytes : (leaves : L → List ℕ → Type 0) → ((l : L) (c : List ℕ) → leaves l c → AreBytes c)
+      → (o : Option L) (c : List ℕ) → AtLane (λ l. leaves l c) o → AreBytes c
+  at_bytes leaves law None c left = absurd left
+  at_bytes leaves law (Some l) c left = law l c left
+
+  pub at_past : (since : L → ℕ → List ℕ → Type 0) → ((l : L) (t : ℕ) (c : List ℕ) → since l t c → AreBytes c)
+      → (o : Option L) (t : ℕ) (c : List ℕ) → AtLane (λ l. since l t c) o → AreBytes c
+  at_past since law None t c left = absurd left
+  at_past since law (Some l) t c left = law l t c left
 
   pub at_now : (moment : L → ℕ) (leaves : L → List ℕ → Type 0) (since : L → ℕ → List ℕ → Type 0)
       → ((l : L) (t : ℕ) (c : List ℕ) → t ≤ moment l → leaves l c → since l t c)

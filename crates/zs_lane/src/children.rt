@@ -1,13 +1,13 @@
 // A set of devices with journals.
 ghost use Rattle.std.specs.Prelude.{◌≡◌, ◌≢◌, ◌≤◌, ◌<◌, ◌+◌, ◌∷◌, ◌++◌, [], List, ℕ, Option, None, Some, length, option_map, slice_range, IfOk, OnOk, IfErr, OnErr, IsErrOf};
 ghost use Rattle.std.specs.List.{slice_get};
-ghost use Rattle.zs_io.specs.Told.{Told, BothTold, Torn, over};
+ghost use Rattle.zs_io.specs.Told.{Told, BothTold, AreBytes, Torn, over};
 ghost use Rattle.zs_io.specs.Crash.{Follows, NoMore, Only, Elapses};
 ghost use Rattle.zs_sum.specs.Sum.{sha256};
 ghost use Rattle.zs_lane.specs.Journal.{Keeps};
 ghost use Rattle.zs_lane.specs.declared.mark.Mark.{Mark};
 ghost use Rattle.zs_lane.specs.Lane.{Refused, HasLaneCause};
-ghost use Rattle.zs_lane.specs.Children.{Stays, of_lane, AtLane, at_told, at_fit, at_now, at_only};
+ghost use Rattle.zs_lane.specs.Children.{Stays, of_lane, AtLane, at_told, at_fit, at_bytes, at_past, at_now, at_only};
 
 use crate::{Lane, LaneFault, Mark, Summed};
 use zs_io::Device;
@@ -168,6 +168,12 @@ pub trait Children {
     /// Each image that a crash may leave on a device has the device's size.
     ghost images_fit: { (set : Self) (e : ℕ) (c : List ℕ) → may_leave set e c → length c ≡ size set e };
 
+    /// Each image that a crash may leave on a device is of bytes, and so is what a read gives, which is one of them.
+    ghost images_are_bytes: { (set : Self) (e : ℕ) (c : List ℕ) → may_leave set e c → AreBytes c };
+
+    /// So is each image that a crash might have left since a moment.
+    ghost past_is_bytes: { (set : Self) (e t : ℕ) (c : List ℕ) → left_since set e t c → AreBytes c };
+
     /// This moment is one of those since an earlier one.
     ghost counts_now: { (set : Self) (e t : ℕ) (c : List ℕ) → t ≤ moment set e → may_leave set e c → left_since set e t c };
 
@@ -216,6 +222,10 @@ impl<D: Device> Children for Vec<Lane<D>> {
     ghost told_is = { λ v e. at_told (λ l. D.size l.device) (λ l. D.told l.device) (λ l c. D.may_leave l.device c) (λ l. D.told_is l.device) (slice_get v.items e) };
 
     ghost images_fit = { λ v e. at_fit (λ l. D.size l.device) (λ l c. D.may_leave l.device c) (λ l. D.images_fit l.device) (slice_get v.items e) };
+
+    ghost images_are_bytes = { λ v e. at_bytes (λ l c. D.may_leave l.device c) (λ l. D.images_are_bytes l.device) (slice_get v.items e) };
+
+    ghost past_is_bytes = { λ v e. at_past (λ l. D.left_since l.device) (λ l. D.past_is_bytes l.device) (slice_get v.items e) };
 
     ghost counts_now = { λ v e. at_now (λ l. D.moment l.device) (λ l c. D.may_leave l.device c) (λ l. D.left_since l.device) (λ l. D.counts_now l.device) (slice_get v.items e) };
 
