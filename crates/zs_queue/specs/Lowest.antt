@@ -14,7 +14,8 @@ Entries : Type 0
 Entries = List (Piece × Item)
 
 -- the entry that an item of the lowest comes from
-found : (items : List (Piece × Item)) (vdev n : ℕ) (i : Item) → AreNamed items → Has (lowest items vdev n) i → Has items (i.piece, i) × (i.piece.place.vdev ≡ vdev)
+found : (items : List (Piece × Item)) (vdev n : ℕ) (i : Item) → AreNamed items → Has (lowest items vdev n) i
+    → Has items (i.piece, i) × (i.piece.place.vdev ≡ vdev)
 found items vdev n i named has =
     let from = has-map (λ (e : Piece × Item). e.1) (take n (filter (is_of vdev) items)) i has in
     let passed = has-filter (is_of vdev) items from.0 (has-take n (filter (is_of vdev) items) from.0 from.1) in
@@ -56,7 +57,8 @@ some-taken zero es asked waits = omega arith
 some-taken (suc n) [] asked waits = waits
 some-taken (suc n) (e ∷ es) asked waits = omega arith
 
-pub lowest_is_batch : (items : List (Piece × Item)) (vdev n : ℕ) → AreNamed items → IsStrictlySortedBy piece_cmp (keys_of items) → IsBatch items vdev n (lowest items vdev n)
+pub lowest_is_batch : (items : List (Piece × Item)) (vdev n : ℕ) → AreNamed items → IsStrictlySortedBy piece_cmp (keys_of items)
+    → IsBatch items vdev n (lowest items vdev n)
 lowest_is_batch items vdev n named ordered = record {
   waiting = λ i has. (found items vdev n i named has).0;
   mirror = λ i has. (found items vdev n i named has).1;

@@ -59,10 +59,10 @@ fn numbers_tasks_from_one(rt: HostRuntime) -> Result<(), AllocError> {
     name.len = 1;
     name.bytes[0] = b'a';
     assert_eq!(rt; txg.queue(3, Task::Fs(name))?, 1);
-    assert_eq!(rt; txg.queue(4, Task::Offline(2))?, 2);
+    assert_eq!(rt; txg.queue(4, Task::Scrub)?, 2);
     assert_eq!(rt; txg.tasks(), 2);
     assert_eq!(rt; txg.task(1), Some((3, Task::Fs(name))));
-    assert_eq!(rt; txg.task(2), Some((4, Task::Offline(2))));
+    assert_eq!(rt; txg.task(2), Some((4, Task::Scrub)));
     assert_eq!(rt; txg.task(0), None);
     assert_eq!(rt; txg.task(3), None);
     Ok(())
