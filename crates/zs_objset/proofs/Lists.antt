@@ -43,3 +43,7 @@ repeated_none bytes = refl
 pub upto_none : (start : List ℕ) (f : ℕ → List ℕ) → start ≡ start ++ flat_map f (upto 0)
 unfolding upto
 upto_none start f = sym (append-nil start)
+
+-- one piece more lengthens bytes by its length
+pub length_more : (start n k m now : ℕ) → m ≡ start + n * k → now ≡ m + k → now ≡ start + (n + 1) * k
+length_more start n k m now is more = omega (arith, is, more)

@@ -1,5 +1,5 @@
 -- One more block is made, of an entry whose key is below those of the blocks made so far.
-use Rattle.std.proofs.Common.{◌≡◌, ◌∙◌, sym, ap, refl, subst, ℕ, cond, List, [], ◌∷◌, ◌++◌, map, reverse, append_assoc, append-nil, Option, Some, None}
+use Rattle.std.proofs.Common.{◌≡◌, ◌∙◌, sym, ap, refl, subst, ℕ, cond, List, [], ◌∷◌, ◌++◌, length, map, reverse, append_assoc, append-nil, Option, Some, None}
 use Rattle.std.specs.declared.cmp.Ordering.TheVariants.{Less}
 use Rattle.std.specs.Ordering.{ordering_reverse, is_eq, match_ordering}
 use Rattle.std.specs.Cmp.{IsTotalOrder}
@@ -15,7 +15,7 @@ use Rattle.zs_ids.specs.Key.{key_cmp}
 use Rattle.zs_txg.specs.declared.staged.StagedEntry.{StagedEntry}
 use Rattle.zs_txg.specs.Txg.{IsInKeyOrder}
 use Rattle.zs_objset.specs.declared.block.StagedBlock.{StagedBlock}
-use Rattle.zs_objset.specs.Staged.{pointer_of, staged_bytes, block_of, pointers_of, or_else, over, AreBlocksOf}
+use Rattle.zs_objset.specs.Staged.{pointer_of, staged_bytes, size_of, block_of, pointers_of, or_else, over, AreBlocksOf, IsSized, AreSized}
 use Rattle.zs_objset.specs.Done.{AreDone}
 use Rattle.zs_objset.proofs.Below.{AreSameAbove, block_same}
 
@@ -72,8 +72,8 @@ listed_more : (get : Key → Option Bp) (t : ℕ) (k : Key) (bp : Bp) (rest : Li
 listed_more get t k bp rest made a h =
     subst (λ (m : List StagedBlock). insert_entry key_cmp (pointers_of m) k bp ≡ (k, bp) ∷ pointers_of m) (sym h) (insert_below (over (pointers_of made) get) t k bp rest a)
 
-pub done_more : (get : Key → Option Bp) (t : ℕ) (all before todo : List StagedEntry) (e : StagedEntry) (ps now : List (Key × Bp)) (blocks made : List StagedBlock) → IsInKeyOrder all → before ≡ todo ++ e ∷ [] → AreDone get t all before ps blocks → made ≡ blocks ++ block_of (over ps get) t e ∷ [] → now ≡ insert_entry key_cmp ps e.key (block_of (over ps get) t e).bp → AreDone get t all todo now made
-done_more get t all before todo e ps now blocks made order is d m n =
+pub done_more : (get : Key → Option Bp) (t : ℕ) (all before todo : List StagedEntry) (e : StagedEntry) (ps now : List (Key × Bp)) (blocks made : List StagedBlock) → IsInKeyOrder all → before ≡ todo ++ e ∷ [] → AreDone get t all before ps blocks → made ≡ blocks ++ block_of (over ps get) t e ∷ [] → IsSized e (block_of (over ps get) t e) → now ≡ insert_entry key_cmp ps e.key (block_of (over ps get) t e).bp → AreDone get t all todo now made
+done_more get t all before todo e ps now blocks made order is d m size n =
     let split : todo ++ (e ∷ d.rest) ≡ all = sym (append_assoc todo (e ∷ []) d.rest) ∙ ap (λ l. l ++ d.rest) (sym is) ∙ d.split in
     let a : AllByRecursion (λ x. key_cmp e.key x ≡ Less) (keys_in d.rest) = above_mid todo e d.rest (subst (λ (l : List StagedEntry). IsInKeyOrder l) (sym split) order) in
     let b : StagedBlock = block_of (over ps get) t e in
@@ -83,6 +83,7 @@ done_more get t all before todo e ps now blocks made order is d m n =
       rest = e ∷ d.rest;
       split = split;
       made = subst (λ (l : List StagedBlock). AreBlocksOf get t (e ∷ d.rest) l) (sym (r ∙ ap (λ x. x ∷ reverse blocks) q)) (made_more get t e d.rest (reverse blocks) a d.made);
+      sized = ap (λ (l : List StagedBlock). map (λ (x : StagedBlock). length x.bytes) l) r ∙ ap (λ (k : ℕ). k ∷ map (λ (x : StagedBlock). length x.bytes) (reverse blocks)) size ∙ ap (λ (ks : List ℕ). size_of e.sectors e.fill ∷ ks) d.sized;
       listed = n ∙ ap (λ l. insert_entry key_cmp l e.key b.bp) d.listed ∙ listed_more get t e.key b.bp d.rest (reverse blocks) a d.made ∙ ap pointers_of (sym r);
     }
 
@@ -91,9 +92,14 @@ done_begins get t all ps blocks p b = record {
   rest = [];
   split = append-nil all;
   made = subst (λ (l : List StagedBlock). AreBlocksOf get t [] (reverse l)) (sym b) refl;
+  sized = subst (λ (l : List StagedBlock). AreSized [] (reverse l)) (sym b) refl;
   listed = p ∙ ap (λ l. pointers_of (reverse l)) (sym b);
 }
 
 pub done_all : (get : Key → Option Bp) (t : ℕ) (all todo : List StagedEntry) (ps : List (Key × Bp)) (blocks : List StagedBlock) → AreDone get t all todo ps blocks → todo ≡ [] → AreBlocksOf get t all (reverse blocks)
 done_all get t all todo ps blocks d e =
     subst (λ (l : List StagedEntry). AreBlocksOf get t l (reverse blocks)) (ap (λ l. l ++ d.rest) (sym e) ∙ d.split) d.made
+
+pub done_sized : (get : Key → Option Bp) (t : ℕ) (all todo : List StagedEntry) (ps : List (Key × Bp)) (blocks : List StagedBlock) → AreDone get t all todo ps blocks → todo ≡ [] → AreSized all (reverse blocks)
+done_sized get t all todo ps blocks d e =
+    subst (λ (l : List StagedEntry). AreSized l (reverse blocks)) (ap (λ l. l ++ d.rest) (sym e) ∙ d.split) d.sized

@@ -67,9 +67,17 @@ dnode_with get n (Some depth) =
 unfoldable pub dnode_bytes : (Key → Option Bp) → ℕ → List ℕ
 dnode_bytes get n = dnode_with get n (top_depth get n)
 
+-- the dnodes of 32 objects, from one on
+abbrev pub dnodes_from : (Key → Option Bp) → ℕ → List ℕ
+dnodes_from get object = flat_map (λ i. dnode_bytes get (object + i)) (upto 32)
+
+-- the pointers to the 64 blocks below a root or an indirect block
+abbrev pub pointers_below : (Key → Option Bp) → Key → List ℕ
+pointers_below get k = flat_map (λ i. pointer_bytes (found_at get (child_of k i))) (upto 64)
+
 -- the bytes of the metadata block at a key, where `get` has the pointers of the blocks below: 32 dnodes, or 64 pointers
 unfoldable pub block_bytes_of : (Key → Option Bp) → Key → List ℕ
 block_bytes_of get k =
     if (k.rank == 0) && not (k.depth == 0)
-    then flat_map (λ i. dnode_bytes get (k.object + i)) (upto 32)
-    else flat_map (λ i. pointer_bytes (found_at get (child_of k i))) (upto 64)
+    then dnodes_from get k.object
+    else pointers_below get k

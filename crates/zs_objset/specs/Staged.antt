@@ -1,5 +1,5 @@
 -- The blocks that a sync writes for one dataset.
-use Rattle.std.specs.Prelude.{◌≡◌, ℕ, ◌-◌, ◌==◌, List, [], ◌∷◌, map, Option, Some, None, if◌then◌else◌}
+use Rattle.std.specs.Prelude.{◌≡◌, ℕ, ◌-◌, ◌*◌, ◌==◌, List, [], ◌∷◌, length, map, Option, Some, None, if◌then◌else◌}
 use Rattle.std.specs.Map.{lookup}
 use Rattle.std.specs.BTreeMap.{is_at}
 use Rattle.zs_ids.specs.declared.key.Key.{Key}
@@ -35,6 +35,11 @@ abbrev pub staged_bytes : (Key → Option Bp) → Key → ℕ → Option ℕ →
 staged_bytes get key sectors (Some fill) = record_bytes fill sectors
 staged_bytes get key sectors None = block_bytes_of get key
 
+-- how many bytes a staged block has: 512 a sector where it is a record, 4,096 where it is a block of pointers
+abbrev pub size_of : ℕ → Option ℕ → ℕ
+size_of sectors (Some fill) = 512 * sectors
+size_of sectors None = 4096
+
 -- a staged block with its pointer and bytes
 abbrev pub block_of : (Key → Option Bp) → ℕ → StagedEntry → StagedBlock
 block_of get t e = record {
@@ -60,3 +65,11 @@ over pointers get key = or_else (lookup (is_at (key_cmp key)) pointers) (get key
 -- the blocks of some staged entries, where the pointers of all of them are put over `get`
 abbrev pub AreBlocksOf : (Key → Option Bp) → ℕ → List StagedEntry → List StagedBlock → Type 0
 AreBlocksOf get t entries blocks = blocks ≡ map (block_of (over (pointers_of blocks) get) t) entries
+
+-- a block has as many bytes as its entry says
+abbrev pub IsSized : StagedEntry → StagedBlock → Type 0
+IsSized e b = length b.bytes ≡ size_of e.sectors e.fill
+
+-- so has each block
+abbrev pub AreSized : List StagedEntry → List StagedBlock → Type 0
+AreSized entries blocks = map (λ b. length b.bytes) blocks ≡ map (λ e. size_of e.sectors e.fill) entries

@@ -11,7 +11,7 @@ pub struct StagedBlock {
     pub key: Key,
     /// The pointer to it.
     pub bp: Bp,
-    /// Its bytes, `bp.sectors` sectors for a record and 4,096 for a block of pointers.
+    /// Its bytes, 512 for each of `bp.sectors` sectors of a record, and 4,096 for a block of pointers.
     pub bytes: Seq<u8>,
 }
 

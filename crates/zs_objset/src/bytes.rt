@@ -1,9 +1,9 @@
 //! The bytes of blocks.
 
-ghost use Rattle.std.specs.Prelude.{◌≡◌, ◌<◌, ◌≤◌, ◌+◌, ◌-◌, ◌*◌, ◌^◌, ◌++◌, ◌∷◌, ◌==◌, ◌&&◌, not, replicate, OnOk, IfOk, IfSome, flat_map, if◌then◌else◌, Some, None};
+ghost use Rattle.std.specs.Prelude.{◌≡◌, ◌<◌, ◌≤◌, ◌+◌, ◌-◌, ◌*◌, ◌^◌, ◌++◌, ◌∷◌, ◌==◌, ◌&&◌, not, length, replicate, OnOk, IfOk, IfSome, flat_map, if◌then◌else◌, Some, None};
 ghost use Rattle.byteorder.specs.Endian.{big_bytes};
 ghost use Rattle.zs_ids.specs.Blocks.{bp_at};
-ghost use Rattle.zs_objset.specs.Bytes.{record_bytes, is_key, found_at, pointer_bytes, child_of, first_block, top_depth, exponent_of, record_exponent, dnode_bytes, dnode_with, block_bytes_of, repeated, upto};
+ghost use Rattle.zs_objset.specs.Bytes.{record_bytes, is_key, found_at, pointer_bytes, child_of, first_block, top_depth, exponent_of, record_exponent, dnode_bytes, dnode_with, dnodes_from, pointers_below, block_bytes_of, repeated, upto};
 ghost use Rattle.zs_objset.specs.Staged.{over};
 
 use std::alloc::{AllocError, Global};
@@ -13,7 +13,8 @@ use zs_sum::bp_write;
 
 /// The bytes of a record of that fill and size.
 pub fn record_of(alloc: Global, fill: u64, sectors: u16) -> Result<Vec<u8>, AllocError>
-    ensures { IfOk result (λ v. v.items ≡ record_bytes fill sectors) }
+    ensures bytes { IfOk result (λ v. v.items ≡ record_bytes fill sectors) }
+    ensures size { IfOk result (λ v. length v.items ≡ 512 * sectors) }
 {
     let sector = sector_of(alloc, fill)?;
     let record = repeat(alloc, &sector, sectors)?;
@@ -22,7 +23,8 @@ pub fn record_of(alloc: Global, fill: u64, sectors: u16) -> Result<Vec<u8>, Allo
 
 /// A sector of that fill.
 fn sector_of(alloc: Global, fill: u64) -> Result<Vec<u8>, AllocError>
-    ensures { IfOk result (λ v. v.items ≡ repeated 64 (big_bytes 8 fill)) }
+    ensures bytes { IfOk result (λ v. v.items ≡ repeated 64 (big_bytes 8 fill)) }
+    ensures size { IfOk result (λ v. length v.items ≡ 512) }
 {
     let word = fill.to_be_bytes();
     let sector = repeat(alloc, &word, 64)?;
@@ -32,7 +34,8 @@ fn sector_of(alloc: Global, fill: u64) -> Result<Vec<u8>, AllocError>
 /// Some bytes, so many times.
 #[tactic(auto, using(crate::proofs::Lists::repeated_more, crate::proofs::Lists::repeated_none))]
 fn repeat(alloc: Global, bytes: &[u8], n: u16) -> Result<Vec<u8>, AllocError>
-    ensures { IfOk result (λ v. v.items ≡ repeated n bytes.now) }
+    ensures bytes { IfOk result (λ v. v.items ≡ repeated n bytes.now) }
+    ensures size { IfOk result (λ v. length v.items ≡ n * length bytes.now) }
 {
     let mut out = Vec::new(alloc);
     for _i in 0..n {
@@ -58,7 +61,8 @@ pub(crate) fn block_over<T: Blocks>(
     staged: &BTreeMap<Key, Bp>,
     key: Key,
 ) -> Result<Vec<u8>, AllocError>
-    ensures { IfOk result (λ v. v.items ≡ block_bytes_of (over staged.now.entries (bp_at (T.entries map.now))) key) }
+    ensures bytes { IfOk result (λ v. v.items ≡ block_bytes_of (over staged.now.entries (bp_at (T.entries map.now))) key) }
+    ensures size { IfOk result (λ v. length v.items ≡ 4096) }
 {
     let mut out = Vec::with_capacity(alloc, 4096)?;
     if has_dnodes(key) {
@@ -85,7 +89,8 @@ fn put_dnodes<T: Blocks>(
     object: u32,
 ) -> Result<(), AllocError>
     requires { object < 2 ^ 16 }
-    ensures { OnOk result (out.new.items ≡ out.old.items ++ flat_map (λ i. dnode_bytes (over staged.now.entries (bp_at (T.entries map.now))) (object + i)) (upto 32)) }
+    ensures bytes { OnOk result (out.new.items ≡ out.old.items ++ dnodes_from (over staged.now.entries (bp_at (T.entries map.now))) object) }
+    ensures size { OnOk result (length out.new.items ≡ length out.old.items + 4096) }
 {
     for i in 0..32 {
         put_dnode(out, map, staged, object + i)?;
@@ -101,7 +106,8 @@ fn put_pointers<T: Blocks>(
     staged: &BTreeMap<Key, Bp>,
     key: Key,
 ) -> Result<(), AllocError>
-    ensures { OnOk result (out.new.items ≡ out.old.items ++ flat_map (λ i. pointer_bytes (found_at (over staged.now.entries (bp_at (T.entries map.now))) (child_of key i))) (upto 64)) }
+    ensures bytes { OnOk result (out.new.items ≡ out.old.items ++ pointers_below (over staged.now.entries (bp_at (T.entries map.now))) key) }
+    ensures size { OnOk result (length out.new.items ≡ length out.old.items + 4096) }
 {
     for i in 0..64u16 {
         let bp = below(map, staged, key, i);
@@ -118,7 +124,8 @@ fn put_dnode<T: Blocks>(
     staged: &BTreeMap<Key, Bp>,
     object: u32,
 ) -> Result<(), AllocError>
-    ensures { OnOk result (out.new.items ≡ out.old.items ++ dnode_bytes (over staged.now.entries (bp_at (T.entries map.now))) object) }
+    ensures bytes { OnOk result (out.new.items ≡ out.old.items ++ dnode_bytes (over staged.now.entries (bp_at (T.entries map.now))) object) }
+    ensures size { OnOk result (length out.new.items ≡ length out.old.items + 128) }
 {
     match top(map, staged, object) {
         None => {
@@ -137,7 +144,8 @@ fn put_dnode<T: Blocks>(
 /// Puts the dnode of an object whose top block is at that depth.
 fn put_object(out: &mut Vec<u8>, depth: u8, exponent: u8, top: Option<Bp>) -> Result<(), AllocError>
     requires { depth < 4 }
-    ensures { OnOk result (out.new.items ≡ out.old.items ++ ((4 - depth) ∷ exponent ∷ replicate 62 0 ++ pointer_bytes top)) }
+    ensures bytes { OnOk result (out.new.items ≡ out.old.items ++ ((4 - depth) ∷ exponent ∷ replicate 62 0 ++ pointer_bytes top)) }
+    ensures size { OnOk result (length out.new.items ≡ length out.old.items + 128) }
 {
     out.extend_from_slice(&[4 - depth, exponent])?;
     out.extend_from_slice(&[0; 62])?;
@@ -267,7 +275,8 @@ fn look_up<T: Blocks>(map: &T, staged: &BTreeMap<Key, Bp>, key: Key) -> Option<B
 /// Puts a pointer, or 64 zeros for none.
 #[tactic(auto, unfolding(crate::specs::Bytes::pointer_bytes))]
 fn put_pointer(out: &mut Vec<u8>, bp: Option<Bp>) -> Result<(), AllocError>
-    ensures { OnOk result (out.new.items ≡ out.old.items ++ pointer_bytes bp) }
+    ensures bytes { OnOk result (out.new.items ≡ out.old.items ++ pointer_bytes bp) }
+    ensures size { OnOk result (length out.new.items ≡ length out.old.items + 64) }
 {
     match bp {
         None => {

@@ -5,9 +5,9 @@
 //! put over it (`specs/Staged`), as `dbuf_sync_list` of OpenZFS leaves them when a txg is synced.
 //! Promise: `needed` answers the key and all above it in order. `block_bytes` answers exactly the bytes of
 //! the block at a key. `staged_blocks` answers one block for each staged entry, whose pointer has the sum of its bytes,
-//! and whose bytes have the pointers of all the staged blocks below it.
+//! and whose bytes have the pointers of all the staged blocks below it: 512 a sector for a record, 4,096 for another.
 //!
-//! `zs_core` stages by `needed` and syncs with `staged_blocks`, `zs_scan` writes the blocks. To change what a
+//! `zs_core` stages by `needed` and syncs with `staged_blocks`, `zscan` writes the blocks. To change what a
 //! block's bytes are see `specs/Bytes` and `bytes`; to change what a sync writes see `specs/Staged` and `staged`.
 #![tactic(auto)]
 

@@ -1,12 +1,12 @@
 //! The blocks that a sync writes for one dataset.
 
-ghost use Rattle.std.specs.Prelude.{◌≡◌, ◌++◌, ◌∷◌, [], OnOk, IfOk, Some};
+ghost use Rattle.std.specs.Prelude.{◌≡◌, ◌++◌, ◌∷◌, [], length, OnOk, IfOk, Some};
 ghost use Rattle.std.specs.BTreeMap.{insert_entry};
 ghost use Rattle.zs_ids.specs.Blocks.{bp_at};
 ghost use Rattle.zs_ids.specs.Key.{key_cmp};
 ghost use Rattle.zs_txg.specs.Txg.{entries_for};
-ghost use Rattle.zs_objset.specs.Staged.{level_of, pointer_of, staged_bytes, block_of, over, AreBlocksOf};
-ghost use Rattle.zs_objset.specs.Done.{AreDone};
+ghost use Rattle.zs_objset.specs.Staged.{level_of, pointer_of, staged_bytes, size_of, block_of, over, AreBlocksOf, IsSized, AreSized};
+ghost use Rattle.zs_objset.specs.Done.{AreDone, with_listed};
 
 use crate::block::StagedBlock;
 use crate::bytes::{block_over, record_of};
@@ -25,7 +25,8 @@ pub fn staged_blocks<T: Blocks>(
     ds: DsId,
     txg: &OpenTxg,
 ) -> Result<Vec<StagedBlock>, AllocError>
-    ensures { IfOk result (λ v. AreBlocksOf (bp_at (T.entries map.now)) txg.now.txg (entries_for txg.now.staged ds) v.items) }
+    ensures blocks { IfOk result (λ v. AreBlocksOf (bp_at (T.entries map.now)) txg.now.txg (entries_for txg.now.staged ds) v.items) }
+    ensures sized { IfOk result (λ v. AreSized (entries_for txg.now.staged ds) v.items) }
 {
     let mut todo = txg.entries_of(alloc, ds)?;
     let mut pointers = BTreeMap::new(alloc);
@@ -43,15 +44,16 @@ fn add<T: Blocks>(
     map: &T,
     t: u64,
     entry: &StagedEntry,
-    pointers: &mut BTreeMap<Key, Bp>,
+    made: &mut BTreeMap<Key, Bp>,
     blocks: &mut Vec<StagedBlock>,
 ) -> Result<(), AllocError>
-    ensures made { OnOk result (blocks.new.items ≡ blocks.old.items ++ block_of (over pointers.old.entries (bp_at (T.entries map.now))) t entry.now ∷ []) }
-    ensures listed { OnOk result (pointers.new.entries ≡ insert_entry key_cmp pointers.old.entries entry.now.key (pointer_of t entry.now (staged_bytes (over pointers.old.entries (bp_at (T.entries map.now))) entry.now.key entry.now.sectors entry.now.fill))) }
+    ensures block { OnOk result (blocks.new.items ≡ blocks.old.items ++ block_of (over made.old.entries (bp_at (T.entries map.now))) t entry.now ∷ []) }
+    ensures sized { OnOk result (IsSized entry.now (block_of (over made.old.entries (bp_at (T.entries map.now))) t entry.now)) }
+    ensures listed { OnOk result (made.new.entries ≡ with_listed made.old.entries (block_of (over made.old.entries (bp_at (T.entries map.now))) t entry.now)) }
 {
-    let bytes = bytes_of(alloc, map, pointers, entry.key, entry.sectors, entry.fill)?;
+    let bytes = bytes_of(alloc, map, made, entry.key, entry.sectors, entry.fill)?;
     let bp = pointer(t, entry, &bytes);
-    pointers.insert(entry.key, bp)?;
+    made.insert(entry.key, bp)?;
     blocks.push(StagedBlock {
         ds: entry.ds,
         key: entry.key,
@@ -70,7 +72,8 @@ fn bytes_of<T: Blocks>(
     sectors: u16,
     fill: Option<u64>,
 ) -> Result<Vec<u8>, AllocError>
-    ensures { IfOk result (λ v. v.items ≡ staged_bytes (over staged.now.entries (bp_at (T.entries map.now))) key sectors fill) }
+    ensures bytes { IfOk result (λ v. v.items ≡ staged_bytes (over staged.now.entries (bp_at (T.entries map.now))) key sectors fill) }
+    ensures sized { IfOk result (λ v. length v.items ≡ size_of sectors fill) }
 {
     match fill {
         Some(fill) => record_of(alloc, fill, sectors),

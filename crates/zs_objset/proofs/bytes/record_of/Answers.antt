@@ -4,6 +4,6 @@ use Rattle.zs_objset.specs.Bytes.{record_bytes}
 use Rattle.zs_objset.proofs.Lists.{repeated_times}
 use Rattle.zs_objset.proofs.bytes.record_of.Goals as goal
 
-pub returns : goal.returns
+pub returns-clause-bytes : goal.returns-clause-bytes
 unfolding record_bytes
-returns c = rw (c.in_ok-record.ensures, c.deref.ensures.value, c.in_ok-sector.ensures) (sym (repeated_times c.args.sectors 64 (big_bytes 8 c.args.fill)))
+returns-clause-bytes c = rw (c.in_ok-record.ensures.bytes, c.deref.ensures.value, c.in_ok-sector.ensures.bytes) (sym (repeated_times c.args.sectors 64 (big_bytes 8 c.args.fill)))
