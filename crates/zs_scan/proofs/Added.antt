@@ -6,6 +6,7 @@ use Rattle.zs_ids.specs.declared.block.Piece.{Piece}
 use Rattle.zs_ids.specs.declared.block.Item.{Item}
 use Rattle.zs_ids.specs.Graph.{Graph, Has, pieces_of}
 use Rattle.zs_ledger.specs.declared.entry.Entry.{Entry}
+use Rattle.zs_ledger.specs.Entry.{HaveCopies}
 use Rattle.zs_ledger.specs.Kept.{has_piece, is_piece}
 use Rattle.zs_phys.specs.declared.scope.Scope.{Scope}
 use Rattle.zs_queue.specs.Lists.{has-filter}
@@ -55,14 +56,14 @@ apart e f (x ∷ es) none h = elim h [
 -- entries of different pieces, each of which may be added, may be added one after another
 all_may : (g : Graph) (scope : Scope) (checked es : List Entry) → AreOnce es → ((e : Entry) → Has es e → MayBeChecked g scope checked e) → MayAllBeChecked g scope checked es
 all_may g scope checked [] once each = tt
-all_may g scope checked (e ∷ es) once each = (each e (inl refl), all_may g scope (checked ++ e ∷ []) es once.1 (λ f h. let may = each f (inr h) in record { block = may.block; wanted = may.wanted; unchecked = still f may.unchecked (apart e f es once.0 h) }))
+all_may g scope checked (e ∷ es) once each = (each e (inl refl), all_may g scope (checked ++ e ∷ []) es once.1 (λ f h. let may = each f (inr h) in record { block = may.block; wanted = may.wanted; unchecked = still f may.unchecked (apart e f es once.0 h); copies = may.copies }))
   where
     still : (f : Entry) → has_piece checked f.piece ≡ false → is_piece f.piece e.piece ≡ false → has_piece (checked ++ e ∷ []) f.piece ≡ false
     still f none other = list_any-append (λ (x : Entry). is_piece f.piece x.piece) checked (e ∷ []) ∙ rw (none, other) refl
 
 -- the entries that a verdict adds may be added
-pub made_may : (v now : ScanView) (number : ℕ) (entries : List Entry) → v ≡ now → IsOrderly v → IsVerdict now number entries → (g : Graph) → AreLive g now → MayAllBeChecked g now.scope now.checked (still_flying now.marks number entries)
-made_may v now number entries same orderly verdict g live = all_may g now.scope now.checked (still_flying now.marks number entries) (rising_once now.marks number entries (verdict_rising now number entries kept verdict)) (λ e h. one e (has-filter (λ (x : Entry). flies_in number (mark_of now.marks x.piece)) entries e h))
+pub made_may : (v now : ScanView) (number : ℕ) (entries : List Entry) → v ≡ now → IsOrderly v → IsVerdict now number entries → HaveCopies now.scope.width entries → (g : Graph) → AreLive g now → MayAllBeChecked g now.scope now.checked (still_flying now.marks number entries)
+made_may v now number entries same orderly verdict have g live = all_may g now.scope now.checked (still_flying now.marks number entries) (rising_once now.marks number entries (verdict_rising now number entries kept verdict)) (λ e h. one e (has-filter (λ (x : Entry). flies_in number (mark_of now.marks x.piece)) entries e h))
   where
     kept : IsOrderly now
     kept = subst IsOrderly same orderly
@@ -82,4 +83,5 @@ made_may v now number entries same orderly verdict g live = all_may g now.scope 
           block = record { holder = block.holder; is_dataset = block.is_dataset; at = block.at; is_entry = block.is_entry; is_piece = subst (λ (p : Piece). Has (pieces_of block.at.1) p) (sym it.piece) block.is_piece; size = it.size ∙ block.size; same_sum = it.same_sum ∙ block.same_sum };
           wanted = kept.scoped e.piece (Some number) mark;
           unchecked = kept.unchecked e.piece (Some number) mark;
+          copies = have e h.0;
         }

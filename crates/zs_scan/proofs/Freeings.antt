@@ -35,6 +35,7 @@ module _ (v : ScanView) (piece : Piece) (marks : List (Piece × Mark)) (room : �
       waiting = λ e h. is.live.waiting e (has-filter _ v.waiting e h).0;
       flying = λ b i here item flies. is.live.flying b i here item (kept_mark v.marks marks piece i.piece (Some b.number) as_before flies);
     };
+    in_room = is.in_room;
   }
 
 -- a freed piece that is not live leaves the scan the datasets' own

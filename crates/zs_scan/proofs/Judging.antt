@@ -1,5 +1,5 @@
 -- What a verdict leaves of a scan is orderly again.
-use Rattle.std.proofs.Common.{◌≡◌, ℕ, ◌≤◌, ◌==◌, ◌&&◌, ◌||◌, ◌++◌, Bool, true, false, not, cond, List, [], ◌∷◌, map, filter, length, refl, sym, ◌∙◌, ap, subst, eq-eqb, eqb-true}
+use Rattle.std.proofs.Common.{◌≡◌, ℕ, ◌≤◌, ◌==◌, ◌&&◌, ◌||◌, ◌++◌, Bool, true, false, not, cond, List, [], ◌∷◌, map, filter, length, refl, sym, ◌∙◌, ap, subst, inl, inr, eq-eqb, eqb-true}
 use Rattle.std.specs.Prelude.{Option, Some, None}
 use Rattle.std.specs.List.{AllByRecursion}
 use Rattle.std.specs.List.Sorted.{IsStrictlySortedBy}
@@ -10,6 +10,7 @@ use Rattle.zs_ids.specs.declared.block.Piece.{Piece}
 use Rattle.zs_ids.specs.declared.block.Item.{Item}
 use Rattle.zs_ids.specs.Graph.{Has}
 use Rattle.zs_ledger.specs.declared.entry.Entry.{Entry}
+use Rattle.zs_ledger.specs.Entry.{HaveCopies}
 use Rattle.zs_ledger.specs.Kept.{has_piece, is_piece}
 use Rattle.zs_queue.specs.Waiting.{piece_cmp}
 use Rattle.zs_scan.specs.declared.batch.Batch.{Batch}
@@ -21,6 +22,7 @@ use Rattle.zs_scan.proofs.Pieces.{same_is, same_itself}
 use Rattle.zs_scan.proofs.Marking.{none_marked_at}
 use Rattle.zs_scan.proofs.Landings.{HaveLanded}
 use Rattle.zs_scan.proofs.Batches.{into-filter, one_batch, rises_filter}
+use Rattle.zs_cover.proofs.Lists.{from-append}
 use Rattle.zs_queue.specs.Lists.{has-filter}
 
 -- the entries of a batch are of the pieces of its items
@@ -150,8 +152,8 @@ module _ (v : ScanView) (number : ℕ) (entries checked : List Entry) (marks : L
       go true flew e = cc
       go false stayed e = (stayed, e)
 
-  pub judged_orderly : IsOrderly (record v { checked = checked; marks = marks; flight = flight; room = room })
-  judged_orderly = record {
+  pub judged_orderly : HaveCopies v.scope.width entries → IsOrderly (record v { checked = checked; marks = marks; flight = flight; room = room })
+  judged_orderly have = record {
     once = subst AreOnce (sym adds) (once-append v.checked (still_flying v.marks number entries) kept.once (rising_once v.marks number entries rising) (λ p h. marked p (still_is v.marks number entries p h).0));
     unchecked = λ p m there. ap (λ (l : List Entry). has_piece l p) adds ∙ list_any-append (λ (e : Entry). is_piece p e.piece) v.checked (still_flying v.marks number entries) ∙ ap (λ b. b || has_piece (still_flying v.marks number entries) p) (kept.unchecked p m (was p m there).1) ∙ not_made p (has_piece (still_flying v.marks number entries) p) refl (was p m there).0;
     waits = λ p. kept.waits p ∙ still_waits p (flies_in number (mark_of v.marks p)) refl;
@@ -164,6 +166,7 @@ module _ (v : ScanView) (number : ℕ) (entries checked : List Entry) (marks : L
     numbers = subst (λ (l : List Batch). RisesTo v.batches l) (sym out) (rises_filter v.batches _ v.flight kept.numbers);
     idle = λ rests. none_marked_at marks (λ q. judged_marks q ∙ ap (λ (l : List (Piece × Mark)). cond (flies_in number (mark_of l q)) None (mark_of l q)) (kept.idle rests));
     landing = enough;
+    copies = λ e h. elim (from-append v.checked (still_flying v.marks number entries) e (subst (λ (l : List Entry). Has l e) adds h)) [ inl old ↦ kept.copies e old | inr new ↦ have e (has-filter _ entries e new).0 ];
   }
     where
       marked : (p : Piece) → flies_in number (mark_of v.marks p) ≡ true → has_piece v.checked p ≡ false

@@ -12,4 +12,5 @@ later_keeps room g n h k v later is = record {
   covered = later_covered room g n h k v.scope v.run (is_done v) (is_done v) is.covered later (λ p live done. done);
   range = let low : v.scope.max ≤ h = is.range in omega (arith, low, later);
   live = is.live;
+  in_room = is.in_room;
 }

@@ -1,6 +1,10 @@
 pub mod Counts
 pub mod Pieces
 pub mod Turns
+pub mod InRoom
+pub mod Full
+pub mod Blanks
+pub mod Emptied
 pub mod Takes
 pub mod Landings
 pub mod Flights

@@ -18,12 +18,11 @@ use Rattle.zs_scan.specs.declared.batch.Batch.{Batch}
 use Rattle.zs_scan.specs.View.{Mark, ScanView, is_same, mark_of, is_waiting, is_flying, pieces_in, has_item, MarksAs}
 use Rattle.zs_scan.specs.Kept.{IsOrderly}
 use Rattle.zs_queue.specs.Lowest.{lowest_is_batch}
-use Rattle.zs_ranges.specs.declared.set.Interval.{Interval}
-use Rattle.zs_phys.specs.declared.scope.Kind.TheVariants.{Scrub}
+use Rattle.zs_phys.specs.declared.scope.Scope.{Scope}
 use Rattle.zs_phys.specs.declared.phys.At.TheVariants.{Nowhere}
 use Rattle.zs_phys.specs.declared.todos.Todo.{Todo}
 use Rattle.zs_phys.specs.Sound.{first_todo}
-use Rattle.zs_scan.specs.Steps.{Freed, Taken, scrub_started}
+use Rattle.zs_scan.specs.Steps.{Freed, Taken, scrub_scope, scrub_started}
 use Rattle.zs_scan.proofs.Pieces.{same_is, same_itself}
 use Rattle.zs_scan.proofs.Flights.{HaveFlown}
 use Rattle.zs_scan.proofs.Marking.{none_marked_at, kept_mark, waits_without, items_any}
@@ -55,6 +54,7 @@ freed_orderly v piece waiting limit marks kept queue is as_before room = record 
   numbers = kept.numbers;
   idle = λ rests. none_marked_at marks (λ q. as_before q ∙ ap (λ (l : List (Piece × Mark)). cond (is_same piece q) None (mark_of l q)) (kept.idle rests) ∙ neither (is_same piece q));
   landing = room;
+  copies = kept.copies;
 }
   where
     left : (b : Bool) (p : Piece) → is_same piece p ≡ b → cond (is_same piece p || false) false (waits v.waiting p) ≡ is_waiting (mark_of marks p)
@@ -99,6 +99,7 @@ module _ (v : ScanView) (b : Batch) (waiting : List (Piece × Item)) (limit : �
     numbers = rises_push v.batches v.flight b kept.numbers number;
     idle = λ rests. none_marked_at marks (λ q. flown q ∙ idle_at q (kept.idle rests) (has_item b.items q) refl);
     landing = enough;
+    copies = kept.copies;
   }
     where
       some_nat : (x y : ℕ) → Some x ≡ Some y → x ≡ y
@@ -145,6 +146,7 @@ finished_orderly v run kept drained landed = record {
   numbers = kept.numbers;
   idle = λ rests. nothing_marked v kept drained landed;
   landing = kept.landing;
+  copies = kept.copies;
 }
 
 pub taken_step : (v now : ScanView) (b : Batch) (waiting : List (Piece × Item)) (limit : ℕ) (marks : List (Piece × Mark)) (batches room : ℕ) → v ≡ now → waiting ≡ without v.waiting (pieces_in b.items) → limit ≡ v.limit → batches ≡ v.batches + 1 → HaveFlown v.marks marks b.number b.items
@@ -191,10 +193,10 @@ lowest_few es vdev n =
     (omega (arith, mapped, taken), omega (arith, mapped, taken, passed))
 
 -- a scrub has started
-pub started_is : (v now : ScanView) (t away : ℕ) (dirty0 : List (List Interval)) (todo : List Todo) (checked : List Entry) (room : ℕ) (waiting : List (Piece × Item)) (limit : ℕ) (marks : List (Piece × Mark)) → v ≡ now → dirty0 ≡ [] → todo ≡ first_todo → checked ≡ [] → waiting ≡ [] → limit ≡ v.limit → marks ≡ []
-    → record v { scope = record { kind = Scrub; min = 0; max = t; width = v.scope.width; dirty0 = dirty0 }; run = record { status = Scanning; paused = false; away = away; at = Nowhere; curmin = 0; curmax = 0; again = false; todo = todo }; checked = checked; room = room; waiting = waiting; limit = limit; marks = marks }
+pub started_is : (v now : ScanView) (t away : ℕ) (scope : Scope) (todo : List Todo) (checked : List Entry) (room : ℕ) (waiting : List (Piece × Item)) (limit : ℕ) (marks : List (Piece × Mark)) → v ≡ now → scope ≡ scrub_scope v.scope t → todo ≡ first_todo → checked ≡ [] → waiting ≡ [] → limit ≡ v.limit → marks ≡ []
+    → record v { scope = scope; run = record { status = Scanning; paused = false; away = away; at = Nowhere; curmin = 0; curmax = 0; again = false; todo = todo }; checked = checked; room = room; waiting = waiting; limit = limit; marks = marks }
     ≡ record (scrub_started t away now) { room = room }
-started_is v now t away dirty0 todo checked room waiting limit marks same no_logs first none empty keeps unmarked = rw (no_logs, first, none, empty, keeps, unmarked) (ap (λ (o : ScanView). record (scrub_started t away o) { room = room }) same)
+started_is v now t away scope todo checked room waiting limit marks same scrubs first none empty keeps unmarked = rw (scrubs, first, none, empty, keeps, unmarked) (ap (λ (o : ScanView). record (scrub_started t away o) { room = room }) same)
 
 -- the batch that was taken, by the queue's own words
 pub taken_is : (v : ScanView) (b : Batch) (items : List Item) (vdev n : ℕ) (checked : List Entry) (waiting : List (Piece × Item)) (limit : ℕ) (marks : List (Piece × Mark)) (flight : List Batch) (batches room : ℕ) → IsOrderly v → IsQueue waiting limit → b.number ≡ v.batches → items ≡ lowest v.waiting vdev n → b.items ≡ items

@@ -121,6 +121,7 @@ module _ (v : ScanView) (item : Item) (waiting : List (Piece × Item)) (limit : 
     numbers = kept.numbers;
     idle = λ rests. absurd (rests may.scans);
     landing = let low : length (filter is_flying v.marks) ≤ v.room = kept.landing in omega (arith, low, same_count);
+    copies = kept.copies;
   }
     where
       agree : (p : Piece) (x : Bool) → is_same item.piece p ≡ x → cond (is_same item.piece p) true (waits v.waiting p) ≡ is_waiting (mark_of marks p)
@@ -145,6 +146,7 @@ run_orderly v run kept same = record {
   numbers = kept.numbers;
   idle = λ rests. kept.idle (λ scans. rests (same ∙ scans));
   landing = kept.landing;
+  copies = kept.copies;
 }
 
 -- a turn leaves the status

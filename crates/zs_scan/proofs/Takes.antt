@@ -17,10 +17,11 @@ use Rattle.zs_scan.specs.Kept.{IsOrderly}
 use Rattle.zs_scan.specs.Steps.{Taken}
 use Rattle.zs_scan.specs.Covered.{IsScanOf, Keeps}
 use Rattle.zs_scan.proofs.Batches.{from-last, below_next}
+use Rattle.zs_scan.proofs.InRoom.{block_in_room}
 
 -- the room of the ledger tells nothing of the datasets
 pub room_keeps : (room : Room) (g : Graph) (n h : ℕ) (v : ScanView) (r : ℕ) → IsScanOf room g n h v → IsScanOf room g n h (record v { room = r })
-room_keeps room g n h v r was = record { covered = was.covered; range = was.range; live = record { waiting = was.live.waiting; flying = was.live.flying } }
+room_keeps room g n h v r was = record { covered = was.covered; range = was.range; live = record { waiting = was.live.waiting; flying = was.live.flying }; in_room = was.in_room }
 
 -- a batch of the lowest pieces was taken
 pub taken_keeps : (old new : ScanView) (b : Batch) (vdev most : ℕ) → IsOrderly old → b.number ≡ old.batches → b.items ≡ lowest old.waiting vdev most → Taken old b new → Keeps old new
@@ -35,6 +36,10 @@ taken_keeps old new b vdev most kept number items taken = λ room g n h was.
           | inr this ↦ was.live.waiting (i.piece, i) (waited i (subst (λ (x : Batch). Has x.items i) (sym this) has))
         ];
       };
+      in_room = λ c i here has. elim (from-last old.flight b c here) [
+        | inl before ↦ was.in_room c i before has
+        | inr this ↦ block_in_room room g n i.piece i.sectors i.sum was.covered.valid (was.live.waiting (i.piece, i) (waited i (subst (λ (x : Batch). Has x.items i) (sym this) has)))
+      ];
     })
   where
     -- what was done is done still

@@ -118,6 +118,7 @@ module _ (room : Room) (g : Graph) (n h : ℕ) (v : ScanView) (was : IsScanOf ro
     covered = turned (is_done v) (λ p done. done) (λ p has. absurd (subst (λ (o : Option Item). Has (put_pieces o) p) none has));
     range = was.range;
     live = record { waiting = was.live.waiting; flying = was.live.flying };
+    in_room = was.in_room;
   }
 
   -- an item is put
@@ -132,6 +133,7 @@ module _ (room : Room) (g : Graph) (n h : ℕ) (v : ScanView) (was : IsScanOf ro
       ];
       flying = λ b i here has there. was.live.flying b i here has (flew i.piece b.number (is_same item.piece i.piece) (sym (marked i.piece) ∙ there));
     };
+    in_room = was.in_room;
   }
     where
       -- what was done is done still

@@ -76,6 +76,7 @@ module _ (v : ScanView) (number : ℕ) (entries : List Entry) (marks : List (Pie
       waiting = is.live.waiting;
       flying = λ b i here item flies. is.live.flying b i (has-filter (λ (x : Batch). not (x.number == number)) v.flight b here).0 item (was i.piece (Some b.number) flies);
     };
+    in_room = λ b i here item. is.in_room b i (has-filter (λ (x : Batch). not (x.number == number)) v.flight b here).0 item;
   }
 
 -- a verdict keeps the scan the datasets' own

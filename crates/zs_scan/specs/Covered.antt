@@ -5,8 +5,9 @@ use Rattle.zs_ids.specs.declared.block.Bp.{Bp}
 use Rattle.zs_ids.specs.declared.block.Piece.{Piece}
 use Rattle.zs_ids.specs.declared.block.Item.{Item}
 use Rattle.zs_ids.specs.Graph.{Dataset, Graph, Has, IsLive, pieces_of}
-use Rattle.zs_ids.specs.GraphValid.{Room}
+use Rattle.zs_ids.specs.GraphValid.{Room, Valid, LiesIn}
 use Rattle.zs_ledger.specs.declared.entry.Entry.{Entry}
+use Rattle.zs_ledger.specs.Entry.{AreCopies}
 use Rattle.zs_ledger.specs.Kept.{has_piece}
 use Rattle.zs_phys.specs.declared.scope.Scope.{Scope}
 use Rattle.zs_phys.specs.Scope.{in_scope}
@@ -29,23 +30,38 @@ pub record AreLive (g : Graph) (v : ScanView) : Type 0 where
   pub waiting : (e : Piece × Item) → Has v.waiting e → IsOfBlock g e.1.piece e.1.sectors e.1.sum
   pub flying : (b : Batch) (i : Item) → Has v.flight b → Has b.items i → mark_of v.marks i.piece ≡ Some (Some b.number) → IsOfBlock g i.piece i.sectors i.sum
 
+-- an item lies in the space of its mirror, and has the size of a block
+pub record IsInRoom (room : Room) (item : Item) : Type 0 where
+  pub lies : LiesIn room item.piece.place item.sectors
+  pub some : 1 ≤ item.sectors
+  pub most : item.sectors ≤ 256
+
+-- the item of a block that some dataset has lies in the room
+abbrev pub RoomLaw : Type 0
+RoomLaw =
+    (room : Room) (g : Graph) (n : ℕ) (piece : Piece) (sectors : ℕ) (sum : List ℕ) → Valid room g n → IsOfBlock g piece sectors sum
+    → IsInRoom room (record { piece = piece; sectors = sectors; sum = sum })
+
 -- the scan belongs to the datasets, whose blocks are born by n and which lie in the room, where the tasks of the
 -- transaction group h come next: its state is sound and covers them, with what is checked, waits or flies as done; its
--- scope ends by h; and what waits or flies is live
+-- scope ends by h; what waits or flies is live; and what is in flight lies in the room, also what was freed since
 pub record IsScanOf (room : Room) (g : Graph) (n h : ℕ) (v : ScanView) : Type 0 where
   pub covered : IsCovered room g n h v.scope v.run (is_done v)
   pub range : v.scope.max ≤ h
   pub live : AreLive g v
+  pub in_room : (b : Batch) (i : Item) → Has v.flight b → Has b.items i → IsInRoom room i
 
 -- a call keeps the scan the datasets' own
 abbrev pub Keeps : ScanView → ScanView → Type 0
 Keeps old new = (room : Room) (g : Graph) (n h : ℕ) → IsScanOf room g n h old → IsScanOf room g n h new
 
--- an entry may be added to those that are checked: it is of a live block in scope that has none
+-- an entry may be added to those that are checked: it is of a live block in scope that has none, and has the copies of a
+-- mirror of the scope's width
 pub record MayBeChecked (g : Graph) (scope : Scope) (checked : List Entry) (e : Entry) : Type 0 where
   pub block : IsOfBlock g e.piece e.sectors e.sum
   pub wanted : in_scope scope e.piece ≡ true
   pub unchecked : has_piece checked e.piece ≡ false
+  pub copies : AreCopies scope.width e.copies
 
 -- the entries may be added one after another
 abbrev pub MayAllBeChecked : Graph → Scope → List Entry → List Entry → Type 0

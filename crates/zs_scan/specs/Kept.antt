@@ -6,6 +6,7 @@ use Rattle.zs_ids.specs.declared.block.Piece.{Piece}
 use Rattle.zs_ids.specs.declared.block.Item.{Item}
 use Rattle.zs_ids.specs.Graph.{Has}
 use Rattle.zs_ledger.specs.declared.entry.Entry.{Entry}
+use Rattle.zs_ledger.specs.Entry.{HaveCopies}
 use Rattle.zs_ledger.specs.Kept.{has_piece}
 use Rattle.zs_phys.specs.declared.phys.Status.TheVariants.{Scanning}
 use Rattle.zs_phys.specs.Scope.{in_scope}
@@ -31,7 +32,8 @@ pub record IsInBatch (flight : List Batch) (number : ℕ) (p : Piece) : Type 0 w
   pub is_item : has_item batch.items p ≡ true
 
 -- what is true of every scan: waiting, flying and checked pieces are disjoint, and each stands once; those that wait or
--- fly are in scope; a piece flies in a batch that is in flight; where no scan runs none waits or flies
+-- fly are in scope; a piece flies in a batch that is in flight; where no scan runs none waits or flies; each entry has the
+-- copies of a mirror of the scope's width
 pub record IsOrderly (v : ScanView) : Type 0 where
   pub once : AreOnce v.checked
   pub unchecked : (p : Piece) (m : Mark) → mark_of v.marks p ≡ Some m → has_piece v.checked p ≡ false
@@ -44,5 +46,6 @@ pub record IsOrderly (v : ScanView) : Type 0 where
   pub rising : (b : Batch) → Has v.flight b → IsStrictlySortedBy piece_cmp (pieces_in b.items)
   pub numbers : RisesTo v.batches v.flight
   pub idle : v.run.status ≢ Scanning → v.marks ≡ []
+  pub copies : HaveCopies v.scope.width v.checked
   -- there is room for the entries of all that fly
   pub landing : length (filter is_flying v.marks) ≤ v.room

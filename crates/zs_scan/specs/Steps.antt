@@ -1,10 +1,11 @@
 -- What each call makes of a scan.
-use Rattle.std.specs.Prelude.{◌≡◌, ℕ, ◌+◌, ◌==◌, ◌&&◌, Bool, true, false, not, List, [], ◌∷◌, ◌++◌, map, filter, Some, None, if◌then◌else◌}
+use Rattle.std.specs.Prelude.{◌≡◌, ℕ, ◌+◌, ◌==◌, ◌&&◌, Bool, true, false, not, List, [], ◌∷◌, ◌++◌, map, filter, replicate, Some, None, if◌then◌else◌}
 use Rattle.zs_ids.specs.declared.block.Piece.{Piece}
 use Rattle.zs_ids.specs.declared.block.Item.{Item}
 use Rattle.zs_ids.specs.Graph.{Has}
 use Rattle.zs_ledger.specs.declared.entry.Entry.{Entry}
 use Rattle.zs_phys.specs.declared.scope.Scope.{Scope}
+use Rattle.zs_ranges.specs.declared.set.Interval.{Interval}
 use Rattle.zs_phys.specs.declared.scope.Kind.{Kind}
 use Rattle.zs_phys.specs.declared.scope.Kind.TheVariants.{Idle, Scrub, Resilver}
 use Rattle.zs_phys.specs.Handlers.{idle}
@@ -24,21 +25,35 @@ is_scrub Idle = false
 is_scrub Scrub = true
 is_scrub Resilver = false
 
--- the scope of a pool that never had a scan
-abbrev pub no_scope : ℕ → Scope
-no_scope width = record { kind = Idle; min = 0; max = 0; width = width; dirty0 = [] }
+-- the scope of a pool on so many devices that never had a scan: no device lacks a copy
+abbrev pub no_scope : ℕ → ℕ → Scope
+no_scope devices width = record { kind = Idle; min = 0; max = 0; width = width; dirty0 = replicate devices [] }
 
 -- a scan that never ran
-abbrev pub blank_scan : ℕ → ℕ → ℕ → ScanView
-blank_scan width limit room = record { scope = no_scope width; run = idle; checked = []; room = room; waiting = []; limit = limit; marks = []; flight = []; batches = 0 }
+abbrev pub blank_scan : ℕ → ℕ → ℕ → ℕ → ScanView
+blank_scan devices width limit room = record {
+  scope = no_scope devices width;
+  run = idle;
+  checked = [];
+  room = room;
+  waiting = [];
+  limit = limit;
+  marks = [];
+  flight = [];
+  batches = 0;
+}
 
--- the scope of a scrub that starts in a transaction group
-abbrev pub scrub_scope : ℕ → ℕ → Scope
-scrub_scope width t = record { kind = Scrub; min = 0; max = t; width = width; dirty0 = [] }
+-- as many sets as these, each of them empty
+abbrev pub emptied : List (List Interval) → List (List Interval)
+emptied sets = map (λ _. []) sets
+
+-- the scope of a scrub that starts in a transaction group, on the devices of the scope before: no device lacks a copy
+abbrev pub scrub_scope : Scope → ℕ → Scope
+scrub_scope old t = record { kind = Scrub; min = 0; max = t; width = old.width; dirty0 = emptied old.dirty0 }
 
 -- a scrub starts: nothing is checked, waits or flies; the batches in flight stay there, and get no entries
 abbrev pub scrub_started : ℕ → ℕ → ScanView → ScanView
-scrub_started t away v = record v { scope = scrub_scope v.scope.width t; run = started away; checked = []; waiting = []; marks = [] }
+scrub_started t away v = record v { scope = scrub_scope v.scope t; run = started away; checked = []; waiting = []; marks = [] }
 
 -- a scan is running that is not a paused scrub
 abbrev pub is_busy : ScanView → Bool
@@ -50,7 +65,14 @@ after_start t away v = if runs v.run.status then record v { run = record v.run {
 
 -- a batch was taken: its pieces no longer wait, and fly in it
 pub record Taken (old : ScanView) (b : Batch) (new : ScanView) : Type 0 where
-  pub rest : new ≡ record old { waiting = without old.waiting (pieces_in b.items); marks = new.marks; flight = old.flight ++ b ∷ []; batches = old.batches + 1; room = new.room }
+  pub rest :
+      new ≡ record old {
+        waiting = without old.waiting (pieces_in b.items);
+        marks = new.marks;
+        flight = old.flight ++ b ∷ [];
+        batches = old.batches + 1;
+        room = new.room;
+      }
   pub marks : (q : Piece) → mark_of new.marks q ≡ (if has_item b.items q then Some (Some b.number) else mark_of old.marks q)
 
 -- the entries are those of the items, one for each, in order
@@ -81,7 +103,13 @@ still_flying marks number entries = filter (λ e. flies_in number (mark_of marks
 
 -- a batch has its verdict: each of its pieces that still flies is checked, and the batch is no longer in flight
 pub record Judged (old : ScanView) (number : ℕ) (entries : List Entry) (new : ScanView) : Type 0 where
-  pub rest : new ≡ record old { checked = old.checked ++ still_flying old.marks number entries; marks = new.marks; flight = filter (λ b. not (b.number == number)) old.flight; room = new.room }
+  pub rest :
+      new ≡ record old {
+        checked = old.checked ++ still_flying old.marks number entries;
+        marks = new.marks;
+        flight = filter (λ b. not (b.number == number)) old.flight;
+        room = new.room;
+      }
   pub marks : (q : Piece) → mark_of new.marks q ≡ (if flies_in number (mark_of old.marks q) then None else mark_of old.marks q)
 
 -- a piece was freed: it neither waits nor flies

@@ -34,7 +34,8 @@ turn_of (steps.End id) = turns.End
 -- the item that a turn puts into the queue: that of the block which it meets, where the block is born up to curmax, and
 -- its piece is in scope and not done
 abbrev pub item_put : ScanView → Step → Option Item
-item_put v (steps.At k bp) = if nat_le bp.birth v.run.curmax && (in_scope v.scope (item_of bp).piece && not (is_done v (item_of bp).piece)) then Some (item_of bp) else None
+item_put v (steps.At k bp) =
+    if nat_le bp.birth v.run.curmax && (in_scope v.scope (item_of bp).piece && not (is_done v (item_of bp).piece)) then Some (item_of bp) else None
 item_put v steps.Nothing = None
 item_put v steps.Skip = None
 item_put v (steps.Enter id least) = None

@@ -19,7 +19,8 @@ fn land_one(marks: &mut Marks, ledger: &mut Ledger, number: u64, entry: &Entry) 
     ensures made { result ≡ (if flies_in number (mark_of marks.old entry.now.piece) then 1 else 0) }
     ensures few { result ≤ 1 }
     ensures entries { ledger.new.entries ≡ ledger.old.entries ++ still_flying marks.old number (entry.now ∷ []) }
-    ensures marks { (q : Piece) → mark_of marks.new q ≡ (if is_same entry.now.piece q && flies_in number (mark_of marks.old q) then None else mark_of marks.old q) }
+    ensures marks { (q : Piece) → mark_of marks.new q
+        ≡ (if is_same entry.now.piece q && flies_in number (mark_of marks.old q) then None else mark_of marks.old q) }
     ensures room { length (filter is_flying marks.new) ≤ ledger.new.room }
 {
     let Some(Some(here)) = marks.get(entry.piece) else {
@@ -45,7 +46,8 @@ pub(crate) fn land_all(
     requires rising { AreRising entries.now }
     ensures made { result ≡ length (still_flying marks.old number entries.now) }
     ensures entries { ledger.new.entries ≡ ledger.old.entries ++ still_flying marks.old number entries.now }
-    ensures marks { (q : Piece) → mark_of marks.new q ≡ (if has_entry entries.now q && flies_in number (mark_of marks.old q) then None else mark_of marks.old q) }
+    ensures marks { (q : Piece) → mark_of marks.new q
+        ≡ (if has_entry entries.now q && flies_in number (mark_of marks.old q) then None else mark_of marks.old q) }
     ensures room { length (filter is_flying marks.new) ≤ ledger.new.room }
 {
     let mut made = 0;

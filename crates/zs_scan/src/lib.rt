@@ -6,11 +6,12 @@
 //! has one mark, whatever queue or batch it is in; so waiting, flying and checked pieces are disjoint, and each stands
 //! once.
 //! Promise: each call keeps the scan the datasets' own (`specs/Covered`): its state is sound, each live piece in scope is
-//! done or ahead of the walk, and what waits or flies is live. A scan finishes exactly where it is complete, and has then
-//! checked every live piece in its scope.
+//! done or ahead of the walk, what waits or flies is live, and all that is in flight lies in the pool's room, also what was
+//! freed since. A scan finishes exactly where it is complete, and has then checked every live piece in its scope.
 //! A turn of the walk puts just the pieces of the turn table. A batch is the lowest pieces of its mirror. A verdict makes
-//! an entry for each piece of its batch that was not freed and whose scan still runs, and for no other. A freed piece
-//! leaves the queue, and gets no entry if it flies. A call that was refused leaves the scan as it was.
+//! an entry for each piece of its batch that was not freed and whose scan still runs, and for no other; each has the copies
+//! of a mirror of the scope's width. A freed piece leaves the queue, and gets no entry if it flies. A call that was refused
+//! leaves the scan as it was.
 //! Cost: a verdict reads the batches in flight in the order in which they were taken, up to its own.
 //!
 //! To change what waits see `zs_queue`; the turns `zs_walk`; what a call makes of a scan `specs/Steps` and `specs/Walks`;
@@ -20,6 +21,7 @@
 pub mod batch;
 mod flight;
 mod landing;
+pub mod laws;
 mod marks;
 pub mod scan;
 mod scope;

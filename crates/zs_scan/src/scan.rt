@@ -4,6 +4,7 @@ ghost use Rattle.std.specs.Prelude.{◌≡◌, ◌≤◌, ◌<◌, ◌+◌, ◌=
 ghost use Rattle.zs_ids.specs.Graph.{Graph, IsLive};
 ghost use Rattle.zs_ids.specs.GraphValid.{Room, Valid};
 ghost use Rattle.zs_ids.specs.declared.block.Piece.{Piece};
+ghost use Rattle.zs_ledger.specs.Entry.{HaveCopies};
 ghost use Rattle.zs_phys.specs.Handlers.{idle};
 ghost use Rattle.zs_phys.specs.declared.scope.Kind.TheVariants.{Idle};
 ghost use Rattle.zs_phys.specs.declared.phys.Status.TheVariants.{Scanning};
@@ -17,6 +18,7 @@ ghost use Rattle.zs_scan.specs.Steps.{blank_scan, is_busy, after_start, scrub_st
 use crate::batch::{Batch, ScanFault};
 use crate::landing::{land_all, remove_batch};
 use crate::marks::Marks;
+use crate::scope::{become_scrub, empty_sets};
 use crate::taking::{filled, fly_all, push_batch};
 use std::alloc::{AllocError, Global};
 use std::collections::VecDeque;
@@ -46,18 +48,39 @@ impl Model for Scan {
 
     ghost Value = { ScanView };
 
-    ghost view = { λ s. record { scope = s.scope; run = s.run; checked = s.ledger.entries; room = s.ledger.room; waiting = s.queue.map.entries; limit = s.queue.limit; marks = s.marks; flight = s.flight.items; batches = s.batches } };
+    ghost view = { λ s. record {
+      scope = s.scope;
+      run = s.run;
+      checked = s.ledger.entries;
+      room = s.ledger.room;
+      waiting = s.queue.map.entries;
+      limit = s.queue.limit;
+      marks = s.marks;
+      flight = s.flight.items;
+      batches = s.batches;
+    } };
 
-    ghost invariant = { λ s. IsOrderly (record { scope = s.scope; run = s.run; checked = s.ledger.entries; room = s.ledger.room; waiting = s.queue.map.entries; limit = s.queue.limit; marks = s.marks; flight = s.flight.items; batches = s.batches }) };
+    ghost invariant = { λ s. IsOrderly (record {
+      scope = s.scope;
+      run = s.run;
+      checked = s.ledger.entries;
+      room = s.ledger.room;
+      waiting = s.queue.map.entries;
+      limit = s.queue.limit;
+      marks = s.marks;
+      flight = s.flight.items;
+      batches = s.batches;
+    }) };
 }
 
 impl Scan {
-    /// A scan that never ran, over mirrors of that width (1 to 4), for at most `limit` waiting pieces. It may be that of
-    /// any datasets.
-    pub fn blank(alloc: Global, width: u8, limit: u32) -> Result<Scan, AllocError>
-        ensures blank { IfOk result (λ s. s ≡ blank_scan width limit s.room) }
+    /// A scan that never ran, of a pool on so many devices, in mirrors of that width (1 to 4), for at most `limit` waiting
+    /// pieces. It may be that of any datasets.
+    pub fn blank(alloc: Global, devices: u8, width: u8, limit: u32) -> Result<Scan, AllocError>
+        ensures blank { IfOk result (λ s. s ≡ blank_scan devices width limit s.room) }
         ensures fresh { IfOk result (λ s. (room : Room) (g : Graph) (n h : ℕ) → n ≤ h → Valid room g n → IsScanOf room g n h s) }
     {
+        let dirty0 = empty_sets(alloc, devices)?;
         let run = Phys::idle(alloc)?;
         Ok(Scan {
             alloc,
@@ -66,7 +89,7 @@ impl Scan {
                 min: 0,
                 max: 0,
                 width,
-                dirty0: Seq::new(alloc),
+                dirty0,
             },
             run,
             ledger: Ledger::new(alloc),
@@ -173,10 +196,7 @@ impl Scan {
     fn begin_scrub(&mut self, t: u64, away: u32)
         ensures { self.new ≡ record (scrub_started t away self.old) { room = self.new.room } }
     {
-        self.scope.kind = Kind::Scrub;
-        self.scope.min = 0;
-        self.scope.max = t;
-        self.scope.dirty0 = Seq::new(self.alloc);
+        become_scrub(self.alloc, &mut self.scope, t);
         self.run.status = Status::Scanning;
         self.run.paused = false;
         self.run.away = away;
@@ -262,16 +282,18 @@ impl Scan {
         })
     }
 
-    /// Takes the verdict of a batch in flight: an entry for each of its items, in order. Puts those into the ledger
-    /// whose piece still flies in it, each of a live block in scope that had none, and answers how many these are. The
-    /// batch is no longer in flight; the scan stays that of the datasets. Takes no memory. Reads no other batch where this
-    /// one was taken first.
+    /// Takes the verdict of a batch in flight: an entry for each of its items, in order, with the copies of a mirror of
+    /// the scope's width. Puts those into the ledger whose piece still flies in it, each of a live block in scope that had
+    /// none, and answers how many these are. The batch is no longer in flight; the scan stays that of the datasets. Takes
+    /// no memory. Reads no other batch where this one was taken first.
     pub fn verdict(&mut self, number: u64, entries: &[Entry]) -> usize
-        requires { IsVerdict self.old number entries.now }
+        requires batch { IsVerdict self.old number entries.now }
+        requires copies { HaveCopies self.old.scope.width entries.now }
         ensures made { result ≡ length (still_flying self.old.marks number entries.now) }
         ensures judged { Judged self.old number entries.now self.new }
         ensures keeps { Keeps self.old self.new }
-        ensures made_of { (g : Graph) → AreLive g self.old → MayAllBeChecked g self.old.scope self.old.checked (still_flying self.old.marks number entries.now) }
+        ensures made_of { (g : Graph) → AreLive g self.old
+            → MayAllBeChecked g self.old.scope self.old.checked (still_flying self.old.marks number entries.now) }
     {
         let made = land_all(&mut self.marks, &mut self.ledger, number, entries);
         remove_batch(&mut self.flight, number);

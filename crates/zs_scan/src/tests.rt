@@ -1,7 +1,8 @@
 //! A scrub of a head with one record, with ample memory.
 
-ghost use Rattle.std.specs.Prelude.{◌≡◌, IfOk};
+ghost use Rattle.std.specs.Prelude.{◌≡◌, ◌∷◌, [], IfOk};
 ghost use Rattle.zs_cover.specs.Laws.{started};
+ghost use Rattle.zs_ledger.specs.declared.entry.CopyResult.TheVariants.{Good, Missing};
 ghost use Rattle.zs_walk.specs.Examples.{block, one_head, one_record, scrub_up_to};
 ghost use Rattle.zs_walk.specs.Walking.{MayWalk};
 
@@ -101,7 +102,7 @@ fn blocks(alloc: Global) -> Result<Flat, AllocError>
 
 #[test]
 fn a_blank_scan_rests(rt: HostRuntime) -> Result<(), Fail> {
-    let mut scan = Scan::blank(rt.alloc(), 2, 8)?;
+    let mut scan = Scan::blank(rt.alloc(), 2, 2, 8)?;
     scan.facts();
     assert!(rt; !scan.is_running() && !scan.is_in_flight() && !scan.is_done(PIECE));
     assert_eq!(rt;
@@ -117,9 +118,10 @@ fn a_blank_scan_rests(rt: HostRuntime) -> Result<(), Fail> {
 
 #[test]
 fn a_scrub_starts_at_the_origin(rt: HostRuntime) -> Result<(), Fail> {
-    let mut scan = Scan::blank(rt.alloc(), 2, 8)?;
+    let mut scan = Scan::blank(rt.alloc(), 2, 2, 8)?;
     assert!(rt; scan.start_scrub(4, 2).is_ok());
     assert!(rt; scan.is_running() && scan.scope().kind == Kind::Scrub && scan.scope().max == 4);
+    assert!(rt; scan.scope().dirty0.len() == 2);
     assert!(rt; scan.run().at == At::Nowhere && scan.run().todo.len() == 1 && scan.run().away == 2);
     assert!(rt; scan.start_scrub(5, 0) == Err(ScanFault::ScanBusy));
     assert!(rt; scan.scope().max == 4);
@@ -129,7 +131,7 @@ fn a_scrub_starts_at_the_origin(rt: HostRuntime) -> Result<(), Fail> {
 
 #[test]
 fn a_batch_of_nothing_is_not_in_flight(rt: HostRuntime) -> Result<(), Fail> {
-    let mut scan = Scan::blank(rt.alloc(), 2, 8)?;
+    let mut scan = Scan::blank(rt.alloc(), 2, 2, 8)?;
     match scan.take(0, 10, 3) {
         Ok(batch) => {
             assert!(rt; batch.items.len() == 0 && batch.vdev == 0 && batch.online == 3);
@@ -155,11 +157,12 @@ fn is_walk<G: Datasets>(scan: &mut Scan, graph: &G, want: &[Turn]) -> bool
     true
 }
 
-/// What was found of an item whose copies are good.
+/// What was found of an item whose two copies are good.
 fn entry_of(item: &Item) -> Entry
     ensures piece { result.piece ≡ item.now.piece }
     ensures sectors { result.sectors ≡ item.now.sectors }
     ensures sum { result.sum ≡ item.now.sum }
+    ensures copies { result.copies ≡ Good ∷ Good ∷ Missing ∷ Missing ∷ [] }
 {
     Entry {
         piece: item.piece,
@@ -180,7 +183,7 @@ fn scrub(alloc: Global) -> Result<Scan, ScanFault>
     ensures scope { IfOk result (λ s. s.scope ≡ scrub_up_to 4) }
     ensures run { IfOk result (λ s. s.run ≡ started 0) }
 {
-    let mut scan = Scan::blank(alloc, 2, 8)?;
+    let mut scan = Scan::blank(alloc, 2, 2, 8)?;
     scan.start_scrub(4, 0)?;
     Ok(scan)
 }
@@ -193,6 +196,9 @@ fn check_one(scan: &mut Scan) -> Option<(Piece, usize)> {
     let [item] = batch.items.as_slice() else {
         return None;
     };
+    if scan.scope().width != 2 {
+        return None;
+    }
     let made = scan.verdict(batch.number, &[entry_of(item)]);
     Some((item.piece, made))
 }

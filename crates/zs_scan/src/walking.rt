@@ -1,6 +1,6 @@
 //! The turns of the walk, with what they put into the queue.
 
-ghost use Rattle.std.specs.Prelude.{◌≡◌, ◌<◌, ◌≤◌, ℕ, true, false, length, OnOk, OnErr, IfOk, IsErrOf, IfSome, is_some};
+ghost use Rattle.std.specs.Prelude.{◌≡◌, ◌<◌, ◌≤◌, ℕ, true, false, length, Err, OnOk, OnErr, IfOk, IsErrOf, IfSome, is_some};
 ghost use Rattle.zs_ids.specs.GraphValid.{Room};
 ghost use Rattle.zs_queue.specs.Waiting.{waits, with_item};
 ghost use Rattle.zs_walk.specs.Walking.{MayWalk};
@@ -45,15 +45,18 @@ fn turn_of(step: &Step) -> Turn
 
 impl Scan {
     /// Makes the next turn of the walk over the datasets, and answers what it was. Refused as `Full` exactly where the
-    /// turn would put a piece and as many wait as the limit allows; nothing has changed then, nor after want of memory.
-    /// A scan that covers the datasets, and whose pieces they have, is such a scan after the turn.
+    /// turn would put a piece and as many wait as the limit allows, and then whatever memory there is. Nothing has changed
+    /// where it was refused, nor after want of memory. A scan that covers the datasets, and whose pieces they have, is such
+    /// a scan after the turn.
     pub fn walk_step<G: Datasets>(&mut self, graph: &G) -> Result<Turn, ScanFault>
         requires { MayWalk (G.datasets graph.now) self.old.scope self.old.run }
         ensures turn { IfOk result (λ turn. Walked (G.datasets graph.now) self.old turn self.new) }
         ensures goes_on { IfOk result (λ turn. MayWalk (G.datasets graph.now) self.new.scope self.new.run) }
         ensures full { IsErrOf result ScanFault.Full → IsFull (G.datasets graph.now) self.old }
+        ensures refuses { IsFull (G.datasets graph.now) self.old → result ≡ Err ScanFault.Full }
         ensures busy { IsErrOf result ScanFault.ScanBusy → ⊥ }
-        ensures keeps { OnOk result ((room : Room) (n h : ℕ) → IsScanOf room (G.datasets graph.now) n h self.old → IsScanOf room (G.datasets graph.now) n h self.new) }
+        ensures keeps { OnOk result ((room : Room) (n h : ℕ)
+            → IsScanOf room (G.datasets graph.now) n h self.old → IsScanOf room (G.datasets graph.now) n h self.new) }
         ensures err { OnErr result (self.new ≡ self.old) }
     {
         let step = visit(graph, &self.scope, &self.run);
@@ -86,6 +89,7 @@ impl Scan {
         requires { IfSome item (IsWanted self.old) }
         ensures ok { OnOk result (PutIf self.old item self.new) }
         ensures full { IsErrOf result ScanFault.Full → (is_some item ≡ true) × (length self.old.waiting ≡ self.old.limit) }
+        ensures refuses { is_some item ≡ true → length self.old.waiting ≡ self.old.limit → result ≡ Err ScanFault.Full }
         ensures busy { IsErrOf result ScanFault.ScanBusy → ⊥ }
         ensures err { OnErr result (self.new ≡ self.old) }
     {
@@ -100,6 +104,7 @@ impl Scan {
         requires { IsWanted self.old item }
         ensures ok { OnOk result (Put self.old item self.new) }
         ensures full { IsErrOf result ScanFault.Full → length self.old.waiting ≡ self.old.limit }
+        ensures refuses { length self.old.waiting ≡ self.old.limit → result ≡ Err ScanFault.Full }
         ensures busy { IsErrOf result ScanFault.ScanBusy → ⊥ }
         ensures err { OnErr result (self.new ≡ self.old) }
     {
@@ -120,6 +125,7 @@ fn put_waiting(queue: &mut PlainQueue, item: Item) -> Result<(), ScanFault>
     ensures ok { OnOk result (⟦<PlainQueue as Waiting>⟧.items queue.new ≡ with_item (⟦<PlainQueue as Waiting>⟧.items queue.old) item) }
     ensures room { OnOk result (length (⟦<PlainQueue as Waiting>⟧.items queue.old) < ⟦<PlainQueue as Waiting>⟧.limit_of queue.old) }
     ensures full { IsErrOf result ScanFault.Full → ⟦<PlainQueue as Waiting>⟧.limit_of queue.old ≤ length (⟦<PlainQueue as Waiting>⟧.items queue.old) }
+    ensures refuses { ⟦<PlainQueue as Waiting>⟧.limit_of queue.old ≤ length (⟦<PlainQueue as Waiting>⟧.items queue.old) → result ≡ Err ScanFault.Full }
     ensures busy { IsErrOf result ScanFault.ScanBusy → ⊥ }
     ensures limit { ⟦<PlainQueue as Waiting>⟧.limit_of queue.new ≡ ⟦<PlainQueue as Waiting>⟧.limit_of queue.old }
     ensures err { OnErr result (⟦<PlainQueue as Waiting>⟧.items queue.new ≡ ⟦<PlainQueue as Waiting>⟧.items queue.old) }

@@ -6,4 +6,4 @@ use Rattle.zs_scan.proofs.scan.Scan.begin_scrub.Goals as goal
 
 pub returns : goal.returns
 returns c =
-    started_is _ _ c.args.t c.args.away _ _ _ _ _ _ _ c.self.view_is c.new.ensures (c.push.ensures ∙ ap (λ (l : List Todo). l ++ record { id = ORIGIN; min = 0 } ∷ []) c.clear.ensures) c.clear-2.ensures.entries c.clear-3.ensures.items c.clear-3.ensures.limit c.clear-4.ensures
+    started_is _ _ c.args.t c.args.away _ _ _ _ _ _ _ c.self.view_is c.become_scrub.ensures (c.push.ensures ∙ ap (λ (l : List Todo). l ++ record { id = ORIGIN; min = 0 } ∷ []) c.clear.ensures) c.clear-2.ensures.entries c.clear-3.ensures.items c.clear-3.ensures.limit c.clear-4.ensures
