@@ -1,5 +1,5 @@
 -- What a `make` or a `write` that is not refused tells: the head has the name, and the object or not.
-use Rattle.std.specs.Prelude.{◌≡◌, ◌+◌, ◌≤◌, ◌||◌, ℕ, Bool, true, false, is_some, Option, Some, None, unwrap_or, refl}
+use Rattle.std.specs.Prelude.{◌≡◌, ◌≢◌, ◌+◌, ◌≤◌, ◌<◌, ◌||◌, ℕ, Bool, true, false, is_some, Option, Some, None, unwrap_or, refl}
 use Rattle.std.specs.Option.{option_or}
 use Rattle.std.proofs.Common.{sym, ◌∙◌, ap, subst, inr, arith}
 use Rattle.std.proofs.lemmas.Bool.{true≢false}
@@ -10,6 +10,9 @@ use Rattle.zs_ids.specs.Blocks.{bp_at}
 use Rattle.zs_ids.specs.Graph.{Dataset}
 use Rattle.zs_txg.specs.declared.staged.Staging.{Staging}
 use Rattle.zs_txg.specs.Txg.{Slot, staged_at}
+use Rattle.zs_script.specs.declared.refusal.Refusal.{Refusal}
+use Rattle.zs_script.specs.declared.refusal.Refusal.TheVariants.{NoSpace}
+use Rattle.zs_script.specs.declared.reply.Reply.{Reply}
 use Rattle.zs_script.specs.declared.reply.Reply.TheVariants as reply
 use Rattle.zs_core.specs.declared.parts.Head.{Head}
 use Rattle.zs_core.specs.declared.parts.Closed.{Closed}
@@ -20,6 +23,7 @@ use Rattle.zs_core.specs.Steps.{WriteStep}
 use Rattle.zs_core.specs.Placed.{staged_again}
 use Rattle.zs_core.specs.View.{CoreView, graph_of, dataset_of, closed_of}
 use Rattle.zs_core.specs.Kept.{view_of, staged_in, sectors_to_stage, IsFullExactly}
+use Rattle.zs_core.specs.Safe.{sectors_taken}
 use Rattle.zs_core.proofs.Making.{is_staged}
 
 module _ (s : PoolState) (h : Head) (name : DsName) (object : ℕ) (graph : s.graph ≡ graph_of (Some h)) where
@@ -92,9 +96,29 @@ module _ (v : CoreView) (h : Head) (name : DsName) (object leaf sectors : ℕ) (
   write_step fill next txg o is group =
       rw (r, (writes v.state h name object graph leaf r).0, is, group, size) (inr (_, is_staged v.state.open_txg.staged h.id object (record_sectors v.state (dataset_of h) object) fill next, refl, refl))
 
-  -- it is not answered that there is none
-  pub write_fits : (txg : ℕ) → v.next_sector + sectors_to_stage v.state.open_txg.staged h.id object sectors ≤ v.end_sector → IsFullExactly v (write_refusal v.state name object leaf) name object (λ d. record_sectors v.state d object) (reply.Wrote name object leaf txg)
-  write_fits txg fits = λ d named allowed.
-      let same : dataset_of h ≡ d = ap (λ (o : Option Dataset). unwrap_or o (dataset_of h)) (sym (writes v.state h name object graph leaf r).0 ∙ named) in
-      let all : v.next_sector + sectors_to_stage v.state.open_txg.staged d.id object (record_sectors v.state d object) ≤ v.end_sector = subst (λ (e : Dataset). v.next_sector + sectors_to_stage v.state.open_txg.staged e.id object (record_sectors v.state e object) ≤ v.end_sector) same (rw size at fits) in
-      (λ is. absurd cc, λ full. absurd (omega (arith, all, full)))
+-- what a record of a dataset takes with the blocks above it
+module _ (v : CoreView) (why : Option Refusal) (name : DsName) (object : ℕ) (sectors : Dataset → ℕ) (d : Dataset) (found : dataset_named v.state.graph name ≡ Some d) where
+  abbrev needed : Dataset → ℕ
+  needed e = sectors_to_stage v.state.open_txg.staged e.id object (sectors e)
+
+  same : (e : Dataset) → dataset_named v.state.graph name ≡ Some e → d ≡ e
+  same e named = ap (λ (o : Option Dataset). unwrap_or o d) (sym found ∙ named)
+
+  -- where its blocks end inside the space it is not answered that there is none
+  pub has_space : (answer : Reply) → (answer ≢ reply.Refused NoSpace) → v.next_sector + needed d ≤ v.end_sector → IsFullExactly v why name object sectors answer
+  has_space answer other fits = λ e named allowed.
+      let all : v.next_sector + needed e ≤ v.end_sector = subst (λ (x : Dataset). v.next_sector + needed x ≤ v.end_sector) (same e named) fits in
+      (λ is. absurd (other is), λ full. absurd (omega (arith, all, full)))
+
+  -- where they do not, it is
+  pub has_none : v.end_sector < v.next_sector + needed d → IsFullExactly v why name object sectors (reply.Refused NoSpace)
+  has_none full = λ e named allowed. (λ is. subst (λ (x : Dataset). v.end_sector < v.next_sector + needed x) (same e named) full, λ more. refl)
+
+-- the next sector lies behind what a record of a dataset takes with the blocks above it
+pub takes : (v : CoreView) (name : DsName) (object : ℕ) (sectors : Dataset → ℕ) (d : Dataset) (count : ℕ) → dataset_named v.state.graph name ≡ Some d → count ≡ sectors_to_stage v.state.open_txg.staged d.id object (sectors d) → v.next_sector + count ≡ v.next_sector + sectors_taken v object sectors (dataset_named v.state.graph name)
+takes v name object sectors d count found is =
+    ap (λ (n : ℕ). v.next_sector + n) (is ∙ ap (λ (o : Option Dataset). sectors_taken v object sectors o) (sym found))
+
+-- a record that was staged is not refused
+pub not_refused : (name : DsName) (object leaf txg : ℕ) → reply.Wrote name object leaf txg ≢ reply.Refused NoSpace
+not_refused name object leaf txg is = absurd cc

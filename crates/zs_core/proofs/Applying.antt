@@ -8,6 +8,7 @@ use Rattle.std.specs.Map.{keys_of}
 use Rattle.std.proofs.Common.{sym, ◌∙◌, ap, subst, inl, inr, arith}
 use Rattle.std.proofs.lemmas.Bool.{true≢false, eqb-true, eq-eqb, false_from_ne_true}
 use Rattle.std.proofs.lemmas.Cmp.{tied_itself}
+use Rattle.zs_scan.specs.Walks.{item_of}
 use Rattle.zs_ids.specs.declared.key.Key.{Key}
 use Rattle.zs_ids.specs.declared.block.Bp.{Bp}
 use Rattle.zs_ids.specs.declared.block.Piece.{Piece}
@@ -96,12 +97,13 @@ pub record IsChangeOf (t : ℕ) (e : Slot × Staging) (c : Key × Bp) : Type 0 w
   pub single : c.1.count ≡ 1
   pub born : c.1.birth ≡ t
   pub piece : (p : Piece) → Has (pieces_of c.1) p → p.place ≡ e.1.place
+  pub first : Has (pieces_of c.1) (item_of c.1).piece
 
 abbrev made : (Key → Option Bp) → ℕ → List (Slot × Staging) → List (Key × Bp)
 made get t staged = pointers_of (map (block_of get t) (map entry_of staged))
 
 change_of : (get : Key → Option Bp) (t : ℕ) (e : Slot × Staging) → IsChangeOf t e ((block_of get t (entry_of e)).key, (block_of get t (entry_of e)).bp)
-change_of get t e = record { key = refl; sectors = refl; height = refl; single = refl; born = refl; piece = λ p h. elim h [ inl is ↦ ap (λ (q : Piece). q.place) (sym is) | inr none ↦ absurd none ] }
+change_of get t e = record { key = refl; sectors = refl; height = refl; single = refl; born = refl; first = inl refl; piece = λ p h. elim h [ inl is ↦ ap (λ (q : Piece). q.place) (sym is) | inr none ↦ absurd none ] }
 
 from_made : (get : Key → Option Bp) (t : ℕ) (staged : List (Slot × Staging)) (c : Key × Bp) → Has (made get t staged) c → (e : Slot × Staging) × Has staged e × IsChangeOf t e c
 from_made get t [] c h = absurd h

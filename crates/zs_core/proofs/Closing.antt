@@ -35,7 +35,7 @@ none_closed head applied open_txg (Some c) at = absurd at
 -- nothing that is staged is formed
 pub none_staged : (size : ℕ → ℕ) (id : DsId) → AreStaged size id []
 unfolding IsStrictlySortedBy
-none_staged size id = record { in_order = tt; for_head = λ e h. absurd h; formed = λ e h. absurd h; parents = λ e h. absurd h }
+none_staged size id = record { in_order = tt; for_head = λ e h. absurd h; formed = λ e h. absurd h; sized = λ e h. absurd h; parents = λ e h. absurd h }
 
 -- what is staged for the head is closed, and nothing is staged in the next transaction group
 pub closes_head : (head : Option Head) (applied start next end : ℕ) (closed staged : List (Slot × Staging)) → IsHeadKept head applied start next end closed staged → IsHeadKept head applied start next end staged []

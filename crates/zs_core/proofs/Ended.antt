@@ -56,6 +56,11 @@ pub ended_limit : (old new : ScanView) (saved saved_now : ℕ) (b : Bool) → En
 ended_limit old new saved saved_now true ends = ap (λ (v : ScanView). v.limit) (ends.done refl).0
 ended_limit old new saved saved_now false ends = ap (λ (v : ScanView). v.limit) (ends.rest refl).0
 
+-- and its width
+pub ended_width : (old new : ScanView) (saved saved_now : ℕ) (b : Bool) → EndsWith old saved b new saved_now → new.scope.width ≡ old.scope.width
+ended_width old new saved saved_now true ends = ap (λ (v : ScanView). v.scope.width) (ends.done refl).0
+ended_width old new saved saved_now false ends = ap (λ (v : ScanView). v.scope.width) (ends.rest refl).0
+
 -- a scan ends where it is complete, and else is as it was
 pub ended_if_complete : (old new : ScanView) (saved saved_now : ℕ) (b : Bool) → EndsWith old saved b new saved_now → EndsIfComplete old new
 ended_if_complete old new saved saved_now true ends = inl (ends.complete.0 refl, (ends.done refl).0)
@@ -73,13 +78,13 @@ pub put_data : (head new : Option Head) (changes : List (Key × Bp)) (pieces : L
 put_data head new changes pieces old now saved put frees = rw (put_next_id head new changes put, ap (λ (v : ScanView). scan_of v saved) frees.rest) refl
 
 -- the scan ends as the machine allows, or goes on
-pub end_step : (s : PoolState) (txg : Txg) (d : Data) (room : Room) (head : Option Head) (old new : ScanView) (saved saved_now : ℕ) (answers : List (Option Refusal)) (b : Bool) → s.suspended ≡ false → after_tasks txg.txg d txg.tasks ≡ data_of head old saved → answers ≡ task_answers txg.txg d txg.tasks → IsScanOf room (graph_of head) txg.txg txg.txg old → EndsWith old saved b new saved_now → EndStep (after_data s txg d) (record s { graph = graph_of head; next_id = next_id_of head; scan = scan_of new saved_now; applied = txg.txg; closed = None; stage = Labelling; suspended = false; answers = answers; finished = b })
-end_step s txg d room head old new saved saved_now answers true up after is scan ends =
+pub end_step : (s : PoolState) (txg : Txg) (d : Data) (room : Room) (head : Option Head) (old new : ScanView) (saved saved_now : ℕ) (answers : List (Option Refusal)) (b : Bool) → after_tasks txg.txg d txg.tasks ≡ data_of head old saved → answers ≡ task_answers txg.txg d txg.tasks → IsScanOf room (graph_of head) txg.txg txg.txg old → EndsWith old saved b new saved_now → EndStep (after_data s txg d) (record s { graph = graph_of head; next_id = next_id_of head; scan = scan_of new saved_now; applied = txg.txg; closed = None; stage = Labelling; answers = answers; finished = b })
+end_step s txg d room head old new saved saved_now answers true after is scan ends =
     let complete : IsComplete old = ends.complete.0 refl in
-    rw (after, is, up) (inl (record {
+    rw (after, is) (inl (record {
       running = ap runs complete.scans;
       unpaused = complete.goes_on;
       all = ends.all refl room (graph_of head) txg.txg txg.txg scan;
       finished = rw ((ends.done refl).0, (ends.done refl).1) refl;
     }))
-end_step s txg d room head old new saved saved_now answers false up after is scan ends = rw (after, is, up, (ends.rest refl).0, (ends.rest refl).1) (inr refl)
+end_step s txg d room head old new saved saved_now answers false after is scan ends = rw (after, is, (ends.rest refl).0, (ends.rest refl).1) (inr refl)

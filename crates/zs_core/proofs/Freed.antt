@@ -126,4 +126,5 @@ module _ (size : ℕ → ℕ) (id : DsId) (name : Name) (n t : ℕ) (entries cha
         covered = subst (λ (v : ScanView). IsCovered (room_of start end blocks) (headed id name after) t t v.scope v.run (is_done new)) same covered;
         range = subst (λ (v : ScanView). v.scope.max ≤ t) same scan.range;
         live = live_still old new orderly scan.live frees;
+        in_room = λ b i h k. scan.in_room b i (subst (λ (l : List Batch). Has l b) (ap (λ (v : ScanView). v.flight) frees.rest) h) k;
       }

@@ -27,7 +27,7 @@ none_formed n = record { sizes = λ object. inl refl; in_order = no_keys; each =
 
 -- nothing is staged for a head, with any record sizes
 pub none_staged : (size : ℕ → ℕ) (id : DsId) → AreStaged size id []
-none_staged size id = record { in_order = no_slots; for_head = λ e h. absurd h; formed = λ e h. absurd h; parents = λ e h k is. absurd h }
+none_staged size id = record { in_order = no_slots; for_head = λ e h. absurd h; formed = λ e h. absurd h; sized = λ e h is. absurd h; parents = λ e h k is. absurd h }
 
 -- nothing lies in a space
 none_placed : (start next end : ℕ) → start ≤ next → next ≤ end → ArePlaced start next end [] []

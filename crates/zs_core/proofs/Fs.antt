@@ -11,7 +11,8 @@ use Rattle.zs_ids.specs.Graph.{Dataset, Graph, Has}
 use Rattle.zs_ids.specs.GraphValid.{Room}
 use Rattle.zs_cover.proofs.Clones.{fs_keeps}
 use Rattle.zs_scan.specs.View.{ScanView, is_done}
-use Rattle.zs_scan.specs.Covered.{IsOfBlock, IsScanOf}
+use Rattle.zs_ids.specs.declared.block.Item.{Item}
+use Rattle.zs_scan.specs.Covered.{IsOfBlock, IsScanOf, IsInRoom}
 use Rattle.zs_core.specs.Placed.{headed, room_of}
 use Rattle.zs_core.specs.View.{graph_of}
 use Rattle.zs_core.proofs.Blank.{blank, may_fs}
@@ -34,15 +35,20 @@ fs_scanned start end blocks n h id name v above scan = record {
     waiting = λ e i. absurd (none_of e.1.piece e.1.sectors e.1.sum ((scan.live).waiting e i));
     flying = λ b i here is_item flies. absurd (none_of i.piece i.sectors i.sum ((scan.live).flying b i here is_item flies));
   };
+  in_room = scan.in_room;
 }
+
+-- what lies in a room lies in one for another number of blocks
+in_other : (room : Room) (item : Item) (blocks : ℕ) → IsInRoom room item → IsInRoom (record room { blocks = blocks }) item
+in_other room item blocks h = record { lies = record { mirror = (h.lies).mirror; from = (h.lies).from; to = (h.lies).to }; some = h.some; most = h.most }
 
 -- a scan of datasets in a room is one in a room for more blocks
 pub wider_scanned : (room : Room) (g : Graph) (n h : ℕ) (v : ScanView) (blocks : ℕ) → room.blocks ≤ blocks → IsScanOf room g n h v → IsScanOf (record room { blocks = blocks }) g n h v
 wider_scanned room g n h v blocks more scan =
-    record { covered = covered_more room g n h v.scope v.run (is_done v) blocks scan.covered more; range = scan.range; live = scan.live }
+    record { covered = covered_more room g n h v.scope v.run (is_done v) blocks scan.covered more; range = scan.range; live = scan.live; in_room = λ b i h k. in_other room i blocks (scan.in_room b i h k) }
 
 -- a scan of datasets before the tasks of a transaction group is one before those of a later one
 pub later_scanned : (room : Room) (g : Graph) (n h k : ℕ) (v : ScanView) → h ≤ k → IsScanOf room g n h v → IsScanOf room g n k v
 later_scanned room g n h k v later scan =
     let range : v.scope.max ≤ h = scan.range in
-    record { covered = covered_later room g n h k v.scope v.run (is_done v) scan.covered later; range = omega (arith, range, later); live = scan.live }
+    record { covered = covered_later room g n h k v.scope v.run (is_done v) scan.covered later; range = omega (arith, range, later); live = scan.live; in_room = scan.in_room }

@@ -40,7 +40,7 @@ put_kept (Some h) None applied t start next end closed staged changes number are
 put_kept (Some h) (Some k) applied t start next end closed staged changes number are put kept = put_head h k applied t start next end closed staged changes number are put kept
 
 -- nothing is staged for another dataset than the head
-none_for : (id : DsId) (other : ℕ) (staged : List (Slot × Staging)) → (id.0 == other) ≡ false → ((e : Slot × Staging) → Has staged e → e.0.0 ≡ id) → filter (λ e. e.0.0.0 == other) staged ≡ []
+pub none_for : (id : DsId) (other : ℕ) (staged : List (Slot × Staging)) → (id.0 == other) ≡ false → ((e : Slot × Staging) → Has staged e → e.0.0 ≡ id) → filter (λ e. e.0.0.0 == other) staged ≡ []
 none_for id other [] apart for_head = refl
 none_for id other (x ∷ xs) apart for_head =
     let rest : filter (λ e. e.0.0.0 == other) xs ≡ [] = none_for id other xs apart (λ e h. for_head e (inr h)) in

@@ -26,5 +26,13 @@ pub mod Put
 pub mod Scanned
 pub mod Judged
 pub mod Closing
+pub mod Writing
 pub mod Opening
 pub mod Histories
+pub mod ShapeSizes
+pub mod Finding
+pub mod Birth
+pub mod Flying
+pub mod PieceCounts
+pub mod Planned
+pub mod Lines

@@ -46,7 +46,7 @@ module _ (size : ℕ → ℕ) (id : DsId) (start next end : ℕ) (entries : List
 
   ready_by : (b : Bool) → (if b then next else next + 8) ≤ end → AreReady size id start (if b then next else next + 8) end entries closed (once_by b)
   ready_by true fits = ready
-  ready_by false fits = (staged_put size id staged ready.0 key (pointers next) formed above, both_next size id staged ready.0 key (pointers next) start next end entries closed ready.1 refl fits)
+  ready_by false fits = (staged_put size id staged ready.0 key (pointers next) formed (λ is. refl) above, both_next size id staged ready.0 key (pointers next) start next end entries closed ready.1 refl fits)
 
   pub ready_once : next_after staged (id, key) 8 next ≤ end → AreReady size id start (next_after staged (id, key) 8 next) end entries closed (staged_once staged (id, key) (sector_at next))
   ready_once fits = ready_by (is_some (staged_at staged (id, key))) fits
@@ -92,19 +92,19 @@ module _ (size : ℕ → ℕ) (id : DsId) (start next end : ℕ) (entries : List
       ready_once size id start (after_root staged id next) end entries closed (with_root staged id next) (dnode_key object) (dnodes object last refl refl) (λ k is. subst (λ (x : Key). is_some (staged_at (with_root staged id next) (id, x)) ≡ true) (root_above object k is) (is_once staged (id, root_key) (sector_at next))) (ready_root (below_end fits)) fits
 
   -- a record is staged for the first time in the group, with the blocks above it
-  pub write_staged : (sectors : ℕ) (fill : Option ℕ) → 1 ≤ object → sectors ≡ size object → after_above staged id object next + sectors ≤ end → AreReady size id start (after_above staged id object next + sectors) end entries closed (staged_with staged id object sectors fill next)
-  write_staged sectors fill first is fits =
+  pub write_staged : (sectors : ℕ) (fill : Option ℕ) → (fill ≡ None → sectors ≡ 8) → 1 ≤ object → sectors ≡ size object → after_above staged id object next + sectors ≤ end → AreReady size id start (after_above staged id object next + sectors) end entries closed (staged_with staged id object sectors fill next)
+  write_staged sectors fill eight first is fits =
       let what : Staging = record { place = sector_at (after_above staged id object next); sectors = sectors; fill = fill } in
       let now : AreReady size id start (after_above staged id object next) end entries closed (with_above staged id object next) = ready_above (omega (arith, fits)) in
       let above : (k : Key) → parent_of (record_key object 0) 1 ≡ Some k → is_some (staged_at (with_above staged id object next) (id, k)) ≡ true = λ k up. subst (λ (x : Key). is_some (staged_at (with_above staged id object next) (id, x)) ≡ true) (dnode_above object k up) (is_once (with_root staged id next) (id, dnode_key object) (sector_at (after_root staged id next))) in
-      (staged_put size id (with_above staged id object next) now.0 (record_key object 0) what (leaf object first last refl is) above, both_next size id (with_above staged id object next) now.0 (record_key object 0) what start (after_above staged id object next) end entries closed now.1 refl fits)
+      (staged_put size id (with_above staged id object next) now.0 (record_key object 0) what (leaf object first last refl is) eight above, both_next size id (with_above staged id object next) now.0 (record_key object 0) what start (after_above staged id object next) end entries closed now.1 refl fits)
 
 -- a block that is staged is staged again at its place, with another fill
-pub again_staged : (size : ℕ → ℕ) (id : DsId) (start next end : ℕ) (entries : List (Key × Bp)) (closed staged : List (Slot × Staging)) (key : Key) (old : Staging) (fill : Option ℕ) → AreReady size id start next end entries closed staged → staged_at staged (id, key) ≡ Some old → AreReady size id start next end entries closed (put_staged staged (id, key) (record { place = old.place; sectors = old.sectors; fill = fill }))
-again_staged size id start next end entries closed staged key old fill ready found =
+pub again_staged : (size : ℕ → ℕ) (id : DsId) (start next end : ℕ) (entries : List (Key × Bp)) (closed staged : List (Slot × Staging)) (key : Key) (old : Staging) (fill : Option ℕ) → (fill ≡ None → old.sectors ≡ 8) → AreReady size id start next end entries closed staged → staged_at staged (id, key) ≡ Some old → AreReady size id start next end entries closed (put_staged staged (id, key) (record { place = old.place; sectors = old.sectors; fill = fill }))
+again_staged size id start next end entries closed staged key old fill eight ready found =
     let was : Has staged ((id, key), old) = at_some slot_cmp slot_total same_slot staged (id, key) old found in
     let what : Staging = record { place = old.place; sectors = old.sectors; fill = fill } in
-    (staged_put size id staged ready.0 key what (ready.0.formed ((id, key), old) was) (λ k up. ready.0.parents ((id, key), old) was k up), both_again size id staged ready.0 key what start next end entries closed ready.1 old found refl refl)
+    (staged_put size id staged ready.0 key what (ready.0.formed ((id, key), old) was) eight (λ k up. ready.0.parents ((id, key), old) was k up), both_again size id staged ready.0 key what start next end entries closed ready.1 old found refl refl)
 
 -- the record of an object has the object's size
 record_formed : (size : ℕ → ℕ) (object n : ℕ) → IsFormed size (record_key object 0) n → (n ≡ size object) × (1 ≤ object) × (object ≤ 2047)
@@ -150,13 +150,14 @@ resized_staged size object sectors id staged none s = record {
   in_order = s.in_order;
   for_head = s.for_head;
   formed = λ e h. resized_formed size object sectors e.0.1 e.1.sectors (λ same. at_none slot_cmp slot_total same_slot staged (id, record_key object 0) e none h (λ i. (s.for_head e h i, same i))) (s.formed e h);
+  sized = s.sized;
   parents = s.parents;
 }
 
 -- the record of a new object is staged, with the blocks above it
-pub make_staged : (size : ℕ → ℕ) (id : DsId) (start next end : ℕ) (entries : List (Key × Bp)) (closed staged : List (Slot × Staging)) (object sectors : ℕ) (fill : Option ℕ) → 1 ≤ object → object ≤ 2047 → staged_at staged (id, record_key object 0) ≡ None → after_above staged id object next + sectors ≤ end → AreReady size id start next end entries closed staged → AreReady (resized size object sectors) id start (after_above staged id object next + sectors) end entries closed (staged_with staged id object sectors fill next)
-make_staged size id start next end entries closed staged object sectors fill first last none fits ready =
-    write_staged (resized size object sectors) id start next end entries closed staged object last (resized_staged size object sectors id staged none ready.0, ready.1) sectors fill first (size_set size object sectors) fits
+pub make_staged : (size : ℕ → ℕ) (id : DsId) (start next end : ℕ) (entries : List (Key × Bp)) (closed staged : List (Slot × Staging)) (object sectors : ℕ) (fill : Option ℕ) → (fill ≡ None → sectors ≡ 8) → 1 ≤ object → object ≤ 2047 → staged_at staged (id, record_key object 0) ≡ None → after_above staged id object next + sectors ≤ end → AreReady size id start next end entries closed staged → AreReady (resized size object sectors) id start (after_above staged id object next + sectors) end entries closed (staged_with staged id object sectors fill next)
+make_staged size id start next end entries closed staged object sectors fill eight first last none fits ready =
+    write_staged (resized size object sectors) id start next end entries closed staged object last (resized_staged size object sectors id staged none ready.0, ready.1) sectors fill eight first (size_set size object sectors) fits
 
 -- staging the root changes nothing at another slot
 other_once : (staged : List (Slot × Staging)) (slot at : Slot) (place : Place) → at ≢ slot → staged_at (staged_once staged slot place) at ≡ staged_at staged at

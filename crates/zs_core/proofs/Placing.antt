@@ -1,5 +1,5 @@
 -- What is staged for the head stays formed and placed when one more block is staged.
-use Rattle.std.specs.Prelude.{◌≡◌, ◌≢◌, ◌⊎◌, ◌<◌, ◌≤◌, ◌+◌, ℕ, Bool, true, false, cond, List, [], is_some, Option, Some, refl}
+use Rattle.std.specs.Prelude.{◌≡◌, ◌≢◌, ◌⊎◌, ◌<◌, ◌≤◌, ◌+◌, ℕ, Bool, true, false, cond, List, [], is_some, Option, Some, None, refl}
 use Rattle.std.specs.Ordering.{is_eq}
 use Rattle.std.specs.declared.cmp.Ordering.{Ordering}
 use Rattle.std.specs.declared.cmp.Ordering.TheVariants.{Less, Equal, Greater}
@@ -37,7 +37,7 @@ some_stays staged slot at what h =
 -- nothing staged
 pub none_staged : (size : ℕ → ℕ) (id : DsId) → AreStaged size id []
 unfolding IsStrictlySortedBy
-none_staged size id = record { in_order = tt; for_head = λ e h. absurd h; formed = λ e h. absurd h; parents = λ e h k is. absurd h }
+none_staged size id = record { in_order = tt; for_head = λ e h. absurd h; formed = λ e h. absurd h; sized = λ e h is. absurd h; parents = λ e h k is. absurd h }
 
 -- the head alone lies as it did with what was staged
 pub placed_alone : (start next end : ℕ) (entries : List (Key × Bp)) (staged : List (Slot × Staging)) → ArePlaced start next end entries staged → ArePlaced start next end entries []
@@ -75,11 +75,12 @@ module _ (size : ℕ → ℕ) (id : DsId) (staged : List (Slot × Staging)) (s :
   from_new e h = from_put slot_cmp slot_total same_slot staged (id, key) what e s.in_order h
 
   -- it stays formed
-  pub staged_put : IsFormed size key what.sectors → ((k : Key) → parent_of key 1 ≡ Some k → is_some (staged_at staged (id, k)) ≡ true) → AreStaged size id (put_staged staged (id, key) what)
-  staged_put formed above = record {
+  pub staged_put : IsFormed size key what.sectors → (what.fill ≡ None → what.sectors ≡ 8) → ((k : Key) → parent_of key 1 ≡ Some k → is_some (staged_at staged (id, k)) ≡ true) → AreStaged size id (put_staged staged (id, key) what)
+  staged_put formed eight above = record {
     in_order = sorted-insert_entry slot_total (id, key) what staged s.in_order;
     for_head = λ e h. elim (from_new e h) [ inl is ↦ ap (λ (y : Slot × Staging). y.0.0) (sym is) | inr old ↦ s.for_head e old.0 ];
     formed = λ e h. elim (from_new e h) [ inl is ↦ subst (λ (y : Slot × Staging). IsFormed size y.0.1 y.1.sectors) is formed | inr old ↦ s.formed e old.0 ];
+    sized = λ e h none. elim (from_new e h) [ inl is ↦ subst (λ (y : Slot × Staging). y.1.sectors ≡ 8) is (eight (ap (λ (y : Slot × Staging). y.1.fill) is ∙ none)) | inr old ↦ s.sized e old.0 none ];
     parents = λ e h k up. some_stays staged (id, key) (id, k) what (elim (from_new e h) [ inl is ↦ above k (ap (λ (y : Slot × Staging). parent_of y.0.1 1) is ∙ up) | inr old ↦ s.parents e old.0 k up ]);
   }
 

@@ -22,6 +22,7 @@ runs_none t head v = record {
   kept = λ start next end staged since begun in_space h. h;
   scanned = λ start end blocks since scan. scan;
   same = λ some. refl;
+  entries = refl;
   ran = inl refl;
 }
 
@@ -31,6 +32,7 @@ runs_both t a b c u v w first second = record {
   kept = λ start next end staged since begun in_space h. second.kept start next end staged since begun in_space (first.kept start next end staged since begun in_space h);
   scanned = λ start end blocks since scan. second.scanned start end blocks since (first.scanned start end blocks since scan);
   same = λ some. second.same (ap is_some (first.same some) ∙ some) ∙ first.same some;
+  entries = second.entries ∙ first.entries;
   ran = started_both t u v w first.ran second.ran;
 }
 
@@ -45,5 +47,6 @@ runs_fs t h v numbered none = record {
   kept = kept_fresh t h numbered none;
   scanned = λ start end blocks since scan. subst (λ (es : List (Key × Bp)). IsScanOf (room_of start end blocks) (headed h.id h.name es) t t v) (sym none) (fs_scanned start end blocks t t h.id h.name v numbered scan);
   same = λ some. absurd (true≢false (sym some));
+  entries = none;
   ran = inl refl;
 }

@@ -19,12 +19,16 @@ use Rattle.zs_core.specs.Kept.{IsHead, sectors_to_stage}
 use Rattle.zs_core.proofs.Inserting.{at_some}
 use Rattle.zs_core.proofs.Making.{AreReady, write_staged, make_staged, again_staged, size_live, size_staged, resized_entries, resized_staged, other_above, needed_is}
 
+-- a record has a fill
+pub some_fill : (fill sectors : ℕ) → Some fill ≡ None → sectors ≡ 8
+some_fill fill sectors is = absurd (true≢false (ap (λ (f : Option ℕ). is_some f) is))
+
 -- what is there is something
 something : {A : Type 0} (f : Option A) → is_some f ≡ true → (x : A) × (f ≡ Some x)
 something None there = absurd (true≢false (sym there))
 something (Some x) there = (x, refl)
 
-module _ (h : Head) (applied start next end : ℕ) (closed staged : List (Slot × Staging)) (object sectors : ℕ) (fill : Option ℕ) (is_head : IsHead h applied start next end closed staged) where
+module _ (h : Head) (applied start next end : ℕ) (closed staged : List (Slot × Staging)) (object sectors : ℕ) (fill : Option ℕ) (eight : fill ≡ None → sectors ≡ 8) (is_head : IsHead h applied start next end closed staged) where
   -- where the record is staged
   abbrev slot : Slot
   slot = (h.id, record_key object 0)
@@ -64,13 +68,13 @@ module _ (h : Head) (applied start next end : ℕ) (closed staged : List (Slot �
   pub head_made : 1 ≤ object → object ≤ 2047 → Has record_sizes sectors → bp_at h.map.map.entries (record_key object 0) ≡ None → staged_at closed slot ≡ None → staged_at staged slot ≡ None → next + needed ≤ end → Kept
   head_made first last is_size unmapped unclosed none fits =
       kept_new (resized is_head.size object sectors) (resized_entries is_head.size object sectors applied h.map.map.entries is_size unmapped is_head.formed) (resized_staged is_head.size object sectors h.id closed unclosed is_head.earlier) none
-      (make_staged is_head.size h.id start next end h.map.map.entries closed staged object sectors fill first last none (fits_new none fits) (is_head.later, is_head.placed))
+      (make_staged is_head.size h.id start next end h.map.map.entries closed staged object sectors fill eight first last none (fits_new none fits) (is_head.later, is_head.placed))
 
   -- one of an object that has its size, staged for the first time in the group
   written_new : (sectors ≡ is_head.size object) × (1 ≤ object) × (object ≤ 2047) → staged_at staged slot ≡ None → next + needed ≤ end → Kept
   written_new is none fits =
       kept_new is_head.size is_head.formed is_head.earlier none
-      (write_staged is_head.size h.id start next end h.map.map.entries closed staged object is.2 (is_head.later, is_head.placed) sectors fill is.1 is.0 (fits_new none fits))
+      (write_staged is_head.size h.id start next end h.map.map.entries closed staged object is.2 (is_head.later, is_head.placed) sectors fill eight is.1 is.0 (fits_new none fits))
 
   module _ (old : Staging) (found : staged_at staged slot ≡ Some old) (same : sectors ≡ old.sectors) where
     -- the block with its dnode is staged
@@ -107,7 +111,7 @@ module _ (h : Head) (applied start next end : ℕ) (closed staged : List (Slot �
     kept_again : Kept
     kept_again =
         let ready : AreReady is_head.size h.id start next end h.map.map.entries closed (put_staged staged slot (record { place = old.place; sectors = old.sectors; fill = fill })) =
-        again_staged is_head.size h.id start next end h.map.map.entries closed staged (record_key object 0) old fill (is_head.later, is_head.placed) found in
+        again_staged is_head.size h.id start next end h.map.map.entries closed staged (record_key object 0) old fill (λ none. sym same ∙ eight none) (is_head.later, is_head.placed) found in
         let now : AreReady is_head.size h.id start (next + needed) end h.map.map.entries closed (staged_again staged h.id object sectors fill next) =
         subst (λ (n : ℕ). AreReady is_head.size h.id start n end h.map.map.entries closed (staged_again staged h.id object sectors fill next)) none_needed
         (subst (λ (l : List (Slot × Staging)). AreReady is_head.size h.id start next end h.map.map.entries closed l) as_again ready) in

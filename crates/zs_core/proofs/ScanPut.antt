@@ -45,6 +45,7 @@ origin_put start end blocks n t old new since frees scan = record {
   covered = subst (λ (v : ScanView). IsCovered (room_of start end blocks) (graph_of None) t t v.scope v.run (is_done new)) (sym frees.rest) covered;
   range = subst (λ (v : ScanView). v.scope.max ≤ t) (sym frees.rest) scan.range;
   live = none_live (graph_of None) old new frees scan.live;
+  in_room = λ b i h k. scan.in_room b i (subst (λ (l : List Batch). Has l b) (ap (λ (v : ScanView). v.flight) frees.rest) h) k;
 }
   where
     covered : IsCovered (room_of start end blocks) (graph_of None) t t old.scope old.run (is_done new)

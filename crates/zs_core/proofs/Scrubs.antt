@@ -44,5 +44,6 @@ runs_scrub t head old new r no_fault busy keeps started = record {
   kept = λ start next end staged since begun in_space h. h;
   scanned = λ start end blocks since scan. at_none r _ no_fault keeps (room_of start end blocks) (graph_of head) t t (omega arith) scan;
   same = λ some. refl;
+  entries = refl;
   ran = inr (not_busy r (is_busy old) no_fault busy, at_none r _ no_fault started);
 }

@@ -16,6 +16,16 @@ start_limit : (t : ℕ) (v : ScanView) (b : Bool) → runs v.run.status ≡ b �
 start_limit t v true is = rw is refl
 start_limit t v false is = rw is refl
 
+-- and the width
+start_width : (t : ℕ) (v : ScanView) (b : Bool) → runs v.run.status ≡ b → (after_start t 0 v).scope.width ≡ v.scope.width
+start_width t v true is = rw is refl
+start_width t v false is = rw is refl
+
+-- and what is in flight
+start_flight : (t : ℕ) (v : ScanView) (b : Bool) → runs v.run.status ≡ b → (after_start t 0 v).flight ≡ v.flight
+start_flight t v true is = rw is refl
+start_flight t v false is = rw is refl
+
 -- it runs
 start_runs : (t : ℕ) (v : ScanView) (b : Bool) → runs v.run.status ≡ b → runs (after_start t 0 v).run.status ≡ true
 start_runs t v true is = rw is is
@@ -30,6 +40,16 @@ start_unpaused t v false is = rw is refl
 pub started_limit : (t : ℕ) (old new : ScanView) → HasStarted t old new → new.limit ≡ old.limit
 started_limit t old new (inl same) = ap (λ (v : ScanView). v.limit) same
 started_limit t old new (inr started) = ap (λ (v : ScanView). v.limit) started.1 ∙ start_limit t old (runs old.run.status) refl
+
+-- and the width
+pub started_width : (t : ℕ) (old new : ScanView) → HasStarted t old new → new.scope.width ≡ old.scope.width
+started_width t old new (inl same) = ap (λ (v : ScanView). v.scope.width) same
+started_width t old new (inr started) = ap (λ (v : ScanView). v.scope.width) started.1 ∙ start_width t old (runs old.run.status) refl
+
+-- and what is in flight
+pub started_flight : (t : ℕ) (old new : ScanView) → HasStarted t old new → new.flight ≡ old.flight
+started_flight t old new (inl same) = ap (λ (v : ScanView). v.flight) same
+started_flight t old new (inr started) = ap (λ (v : ScanView). v.flight) started.1 ∙ start_flight t old (runs old.run.status) refl
 
 -- they leave a scan that runs and is not paused as it was
 pub started_goes_on : (t : ℕ) (old new : ScanView) → HasStarted t old new → runs old.run.status ≡ true → old.run.paused ≡ false → new ≡ old

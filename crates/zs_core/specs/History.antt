@@ -1,5 +1,5 @@
 -- Histories: which are runs of the machine, and what text they have.
-use Rattle.std.specs.Prelude.{◌≡◌, ℕ, List, [], ◌∷◌, flat_map}
+use Rattle.std.specs.Prelude.{◌≡◌, ℕ, List, [], ◌∷◌, flat_map, take}
 use Rattle.zs_script.specs.Texts.{reply_text}
 use Rattle.zs_core.specs.declared.event.Event.{Event}
 use Rattle.zs_core.specs.declared.event.Step.{Step}
@@ -13,9 +13,13 @@ pub record Full : Type 0 where
   pub now : PoolState
   pub kept : PoolState
 
--- what is committed after a step: at a commit the present state, and else what it was
+-- the state as it is stored: with its saved entries alone
+abbrev pub stored : PoolState → PoolState
+stored s = record s { scan = record s.scan { checked = take s.scan.saved s.scan.checked } }
+
+-- what is committed after a step: at a commit the present state as it is stored, and else what it was
 abbrev pub kept_after : Step → PoolState → PoolState → PoolState
-kept_after (step.Committed online) now kept = now
+kept_after (step.Committed online) now kept = stored now
 kept_after _ now kept = kept
 
 -- one step of the state with its committed part

@@ -7,6 +7,7 @@ use Rattle.zs_scan.specs.Steps.{IsVerdict, Judged, still_flying}
 use Rattle.zs_script.specs.declared.reply.Reply.TheVariants as reply
 use Rattle.zs_core.specs.declared.event.Step.TheVariants as step
 use Rattle.zs_core.specs.declared.pool.Verdicts.{Verdicts}
+use Rattle.zs_core.specs.Steps.{VerdictStep}
 use Rattle.zs_core.specs.View.{PoolView, AddsEvent}
 
 -- the entries that were made, if a batch was judged
@@ -31,4 +32,5 @@ pub record HasVerdict (by : ℕ) (old : PoolView) (v : Verdicts) (many : ℕ) (n
   pub made : Option (List Entry)
   pub judged : IsJudged old.core.scan v.number v.entries made new.core.scan
   pub counted : many ≡ length (entries_in made)
+  pub makes : VerdictStep old.core.state (entries_in made) new.core.state
   pub event : AddsEvent by (step.Verdict v.number (pieces_in made v.entries) (entries_in made)) reply.Nothing old.history new.history

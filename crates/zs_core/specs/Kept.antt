@@ -20,15 +20,32 @@ use Rattle.zs_core.specs.declared.parts.Head.{Head}
 use Rattle.zs_core.specs.declared.parts.Closed.{Closed}
 use Rattle.zs_core.specs.declared.present.Present.TheInside.{Inside}
 use Rattle.zs_core.specs.Machine.{dataset_named}
+use Rattle.zs_core.specs.Shapes.{IsShape, IsLeast, data_start}
 use Rattle.zs_core.specs.Steps.{AreChanges, all_replaced}
 use Rattle.zs_core.specs.Placed.{room_of, AreFormed, AreStaged, AreBothPlaced}
-use Rattle.zs_core.specs.View.{CoreView, graph_of, next_id_of, txg_of, closed_of, scan_of}
+use Rattle.zs_core.specs.View.{CoreView, graph_of, next_id_of, txg_of, closed_of, pointers_in, scan_of}
 
 -- what contracts see of the parts
 abbrev pub view_of : Inside → CoreView
 view_of p = record {
-  state = record { graph = graph_of p.heads.head; next_id = next_id_of p.heads.head; applied = p.applied; online = p.online; open_txg = txg_of p.open; closed = closed_of p.closed; stage = p.stage; scan = scan_of p.scan p.saved; suspended = p.suspended; answers = p.answers.items; finished = p.finished; reads = p.reads.items };
+  state = record {
+    graph = graph_of p.heads.head;
+    next_id = next_id_of p.heads.head;
+    applied = p.applied;
+    devices = p.shape.devices;
+    online = p.online;
+    open_txg = txg_of p.open;
+    closed = closed_of p.closed;
+    stage = p.stage;
+    scan = scan_of p.scan p.saved;
+    suspended = p.suspended;
+    answers = p.answers.items;
+    finished = p.finished;
+    reads = p.reads.items;
+  };
   scan = p.scan;
+  pointers = pointers_in p.closed;
+  shape = p.shape;
   next_sector = p.next_sector;
   end_sector = p.end_sector;
 }
@@ -76,18 +93,19 @@ IsAtStage head applied open_txg None _ = open_txg ≡ applied + 1
 abbrev pub born_by : ℕ → ℕ
 born_by applied = max 1 applied
 
--- what is true of the present state of a pool that is not suspended: the head and what is staged lie in the space, the
--- scan belongs to the datasets, and the transaction groups follow each other
+-- what is true of every present state: the head and what is staged lie in the space, which ends where the least device
+-- does; the scan belongs to the datasets; and the transaction groups follow each other, unless the pool was suspended
 pub record Facts (p : Inside) : Type 0 where
-  pub start : ℕ
-  pub blocks : ℕ
-  pub begun : start ≤ p.next_sector
+  pub shape : IsShape p.shape
+  pub end : IsLeast p.end_sector p.shape.sectors
+  pub width : p.scan.scope.width ≡ p.shape.width
+  pub begun : data_start p.shape.blocks ≤ p.next_sector
   pub space : p.next_sector ≤ p.end_sector
-  pub end : p.end_sector ≤ 2097152
-  pub head : IsHeadKept p.heads.head p.applied start p.next_sector p.end_sector (staged_in p.closed) p.open.staged
-  pub scan : IsScanOf (room_of start p.end_sector blocks) (graph_of p.heads.head) (born_by p.applied) (p.applied + 1) p.scan
-  pub some_may : 1 ≤ p.scan.limit
-  pub at_stage : IsAtStage p.heads.head p.applied p.open.txg p.closed p.stage
+  pub head : IsHeadKept p.heads.head p.applied (data_start p.shape.blocks) p.next_sector p.end_sector (staged_in p.closed) p.open.staged
+  pub blocks : ℕ
+  pub scan : IsScanOf (room_of (data_start p.shape.blocks) p.end_sector blocks) (graph_of p.heads.head) (born_by p.applied) (p.applied + 1) p.scan
+  pub may_wait : p.scan.limit ≡ p.shape.limit
+  pub at_stage : p.suspended ≡ false → IsAtStage p.heads.head p.applied p.open.txg p.closed p.stage
   pub limit : p.open.txg ≤ TXG_END
 
 -- entries were put over those of the head
@@ -96,13 +114,12 @@ IsPutIn None changes new = new ≡ None
 IsPutIn (Some h) changes None = ⊥
 IsPutIn (Some h) changes (Some k) = (k.id ≡ h.id) × (k.name ≡ h.name) × (k.map.map.entries ≡ all_replaced h.map.map.entries changes)
 
--- what is true of every present state
-abbrev pub IsKept : Inside → Type 0
-IsKept p = p.suspended ≡ false → Facts p
-
 -- how many sectors the record of an object needs with the blocks above it, of those that are not staged yet
 abbrev pub sectors_to_stage : List (Slot × Staging) → DsId → ℕ → ℕ → ℕ
-sectors_to_stage staged ds object sectors = (if is_some (staged_at staged (ds, root_key)) then 0 else 8) + (if is_some (staged_at staged (ds, dnode_key object)) then 0 else 8) + (if is_some (staged_at staged (ds, record_key object 0)) then 0 else sectors)
+sectors_to_stage staged ds object sectors =
+    (if is_some (staged_at staged (ds, root_key)) then 0 else 8)
+    + (if is_some (staged_at staged (ds, dnode_key object)) then 0 else 8)
+    + (if is_some (staged_at staged (ds, record_key object 0)) then 0 else sectors)
 
 -- a command that nothing else refuses is refused for want of space exactly where the blocks that it needs do not end
 -- inside the space

@@ -1,4 +1,8 @@
 pub mod Machine
+pub mod Born
+pub mod Flight
+pub mod Finishing
+pub mod Writes
 pub mod Replies
 pub mod Status
 pub mod Steps

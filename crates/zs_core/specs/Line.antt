@@ -1,5 +1,5 @@
 -- Which reply a line may have.
-use Rattle.std.specs.Prelude.{◌≡◌, ℕ, ◌<◌, List, [], ◌∷◌, filter, length}
+use Rattle.std.specs.Prelude.{◌≡◌, ℕ, ◌<◌, ◌⊎◌, List, [], ◌∷◌, filter, length}
 use Rattle.zs_phys.specs.Turn.{HasNoWork}
 use Rattle.zs_queue.specs.Waiting.{is_of}
 use Rattle.zs_scan.specs.View.{ScanView}
@@ -11,7 +11,8 @@ use Rattle.zs_script.specs.declared.reply.Reply.TheVariants as reply
 use Rattle.zs_script.specs.declared.reply.WalkEnd.{WalkEnd}
 use Rattle.zs_script.specs.declared.reply.WalkEnd.TheVariants as ends
 use Rattle.zs_core.specs.Steps.{LineStep}
-use Rattle.zs_core.specs.Told.{TellsSteps, line_steps}
+use Rattle.zs_core.specs.Flight.{in_flight}
+use Rattle.zs_core.specs.Told.{TellsSteps, LeavesNone, line_steps}
 use Rattle.zs_core.specs.View.{CoreView, PoolView}
 
 -- why a walk that was to make n turns made just this many: as many were made; the next one is refused as full; or none is
@@ -26,9 +27,15 @@ IsWhy v n turns ends.Draining = ⊥
 abbrev pub waiting_counts : ScanView → List ℕ
 waiting_counts v = length (filter (is_of 0) v.waiting) ∷ []
 
+-- as many pieces were taken as were asked for, or nothing of the mirror waits any more
+abbrev pub TookAll : ScanView → ℕ → ℕ → ℕ → Type 0
+TookAll v vdev n taken = (taken ≡ n) ⊎ (filter (is_of vdev) v.waiting ≡ [])
+
 -- what the reply to a line tells of the pool
 abbrev pub TellsPool : CoreView → Command → Reply → Type 0
 TellsPool v (command.Walk n) (reply.Walked turns why waiting) = IsWhy v n turns why × (waiting ≡ waiting_counts v.scan)
+TellsPool v (command.Issue vdev n) (reply.Issued w pieces) = TookAll v.scan vdev n (length pieces)
+TellsPool v (command.Hold vdev n) (reply.Held w sectors) = TookAll v.scan vdev n (length sectors)
 TellsPool v command.Land (reply.Landed entries pieces) = v.scan.flight ≡ []
 TellsPool v _ _ = Unit {0}
 
@@ -36,4 +43,5 @@ TellsPool v _ _ = Unit {0}
 pub record IsLineReply (p : PoolView) (c : Command) (answer : Reply) : Type 0 where
   pub step : LineStep p.core.state c answer
   pub told : TellsSteps (line_steps p.history) c answer
+  pub none : LeavesNone (in_flight p.history) c answer
   pub pool : TellsPool p.core c answer

@@ -51,7 +51,8 @@ pub record PoolState : Type 0 where
   pub next_id : ℕ
   -- the last transaction group whose changes the graph has
   pub applied : ℕ
-  -- the devices that are online, a bit for each
+  -- how many devices the pool has, and which of them are online, a bit for each
+  pub devices : ℕ
   pub online : ℕ
   -- the open transaction group, and the one that a sync has closed and not yet applied
   pub open_txg : Txg

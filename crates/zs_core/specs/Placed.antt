@@ -63,11 +63,13 @@ pub record AreFormed (size : ℕ → ℕ) (n : ℕ) (entries : List (Key × Bp))
   pub each : (e : Key × Bp) → Has entries e → IsWhole size n e
   pub parents : (e : Key × Bp) → Has entries e → (k : Key) → parent_of e.0 1 ≡ Some k → HasAt entries k e.1.birth
 
--- what is staged in a transaction group: blocks of the head in order of key, each but the root with its parent block
+-- what is staged in a transaction group: blocks of the head in order of key, each but the root with its parent block;
+-- one of pointers, which has no fill, has eight sectors
 pub record AreStaged (size : ℕ → ℕ) (id : DsId) (staged : List (Slot × Staging)) : Type 0 where
   pub in_order : IsInSlotOrder staged
   pub for_head : (e : Slot × Staging) → Has staged e → e.0.0 ≡ id
   pub formed : (e : Slot × Staging) → Has staged e → IsFormed size e.0.1 e.1.sectors
+  pub sized : (e : Slot × Staging) → Has staged e → e.1.fill ≡ None → e.1.sectors ≡ 8
   pub parents : (e : Slot × Staging) → Has staged e → (k : Key) → parent_of e.0.1 1 ≡ Some k → is_some (staged_at staged (id, k)) ≡ true
 
 -- m sectors from a place on and n from another share a sector
@@ -91,7 +93,8 @@ pub record ArePlaced (start next end : ℕ) (entries : List (Key × Bp)) (staged
   pub new : (e : Slot × Staging) → Has staged e → LiesBetween start next e.1.place e.1.sectors
   pub live_apart : (e f : Key × Bp) → Has entries e → Has entries f → Overlap e.1 f.1 → e.0 ≡ f.0
   pub new_apart : (e f : Slot × Staging) → Has staged e → Has staged f → Meet e.1.place e.1.sectors f.1.place f.1.sectors → e.0 ≡ f.0
-  pub between : (e : Slot × Staging) (f : Key × Bp) → Has staged e → Has entries f → (p : Piece) → Has (pieces_of f.1) p → Meet e.1.place e.1.sectors p.place f.1.sectors → ⊥
+  pub between : (e : Slot × Staging) (f : Key × Bp) → Has staged e → Has entries f → (p : Piece) → Has (pieces_of f.1) p
+      → Meet e.1.place e.1.sectors p.place f.1.sectors → ⊥
 
 -- so lie the head, what is staged in the transaction group that is closed, and what is staged in the open one; and what
 -- is staged in one shares no sector with what is staged in the other
@@ -123,10 +126,14 @@ with_above staged id object next = staged_once (with_root staged id next) (id, d
 abbrev pub after_above : List (Slot × Staging) → DsId → ℕ → ℕ → ℕ
 after_above staged id object next = next_after (with_root staged id next) (id, dnode_key object) 8 (after_root staged id next)
 
+-- what is staged at a place
+abbrev pub staging : Place → ℕ → Option ℕ → Staging
+staging place sectors fill = record { place = place; sectors = sectors; fill = fill }
+
 -- the record of an object is staged behind the blocks above it
 abbrev pub staged_with : List (Slot × Staging) → DsId → ℕ → ℕ → Option ℕ → ℕ → List (Slot × Staging)
 staged_with staged id object sectors fill next =
-    put_staged (with_above staged id object next) (id, record_key object 0) (record { place = sector_at (after_above staged id object next); sectors = sectors; fill = fill })
+    put_staged (with_above staged id object next) (id, record_key object 0) (staging (sector_at (after_above staged id object next)) sectors fill)
 
 -- the place of what is staged, or else another one
 abbrev pub place_or : Option Staging → Place → Place
@@ -137,4 +144,5 @@ place_or (Some e) place = e.place
 abbrev pub staged_again : List (Slot × Staging) → DsId → ℕ → ℕ → Option ℕ → ℕ → List (Slot × Staging)
 staged_again staged id object sectors fill next =
     let above = with_above staged id object next in
-    put_staged above (id, record_key object 0) (record { place = place_or (staged_at above (id, record_key object 0)) (sector_at (after_above staged id object next)); sectors = sectors; fill = fill })
+    let place = place_or (staged_at above (id, record_key object 0)) (sector_at (after_above staged id object next)) in
+    put_staged above (id, record_key object 0) (staging place sectors fill)

@@ -8,6 +8,7 @@ use Rattle.zs_ids.specs.Graph.{Dataset}
 use Rattle.zs_txg.specs.declared.task.Task.{Task}
 use Rattle.zs_txg.specs.declared.task.Task.TheVariants as task
 use Rattle.zs_phys.specs.declared.phys.Status.TheVariants as status
+use Rattle.zs_phys.specs.declared.scope.Scope.{Scope}
 use Rattle.zs_scan.specs.Steps.{scrub_scope}
 use Rattle.zs_script.specs.declared.refusal.Refusal.{Refusal}
 use Rattle.zs_script.specs.declared.refusal.Refusal.TheVariants.{Exists, TooMany, ScanBusy, NoDataset, NoObject, ObjectThere, PastEnd, Suspended, TxgEnd}
@@ -17,11 +18,19 @@ use Rattle.zs_core.specs.Machine.{PoolState, Data, ScanState, same_name, dataset
 
 -- a head of no blocks on the origin
 abbrev pub new_head : ℕ → Name → Dataset
-new_head id name = record { id = record { 0 = id }; head = true; owner = name; label = record { len = 0; bytes = 0 ∷ 0 ∷ 0 ∷ 0 ∷ 0 ∷ 0 ∷ 0 ∷ 0 ∷ 0 ∷ 0 ∷ 0 ∷ 0 ∷ [] }; parent = Some (record { 0 = 0 }); creation = 0; entries = [] }
+new_head id name = record {
+  id = record { 0 = id };
+  head = true;
+  owner = name;
+  label = record { len = 0; bytes = 0 ∷ 0 ∷ 0 ∷ 0 ∷ 0 ∷ 0 ∷ 0 ∷ 0 ∷ 0 ∷ 0 ∷ 0 ∷ 0 ∷ [] };
+  parent = Some (record { 0 = 0 });
+  creation = 0;
+  entries = [];
+}
 
--- a scrub that starts in that transaction group, over mirrors of that width
-abbrev pub scrub_from : ℕ → ℕ → ScanState
-scrub_from width txg = record { scope = scrub_scope width txg; status = status.Scanning; paused = false; checked = []; saved = 0 }
+-- a scrub that starts in that transaction group, over the devices of a scope
+abbrev pub scrub_from : Scope → ℕ → ScanState
+scrub_from scope txg = record { scope = scrub_scope scope txg; status = status.Scanning; paused = false; checked = []; saved = 0 }
 
 -- why a task is refused when it runs. A pool has one head; a second one is refused as one too many
 abbrev pub task_refusal : Data → Task → Option Refusal
@@ -30,13 +39,11 @@ task_refusal d (task.Fs name) =
     then Some Exists
     else (if list_any (λ x. x.head) d.graph then Some TooMany else None)
 task_refusal d task.Scrub = if is_busy d.scan then Some ScanBusy else None
-task_refusal d _ = None
 
 -- what a task that is not refused does in a transaction group
 abbrev pub after_task : ℕ → Data → Task → Data
 after_task txg d (task.Fs name) = record d { graph = d.graph ++ new_head d.next_id name ∷ []; next_id = d.next_id + 1 }
-after_task txg d task.Scrub = record d { scan = if is_running d.scan then record d.scan { paused = false } else scrub_from d.scan.scope.width txg }
-after_task txg d _ = d
+after_task txg d task.Scrub = record d { scan = if is_running d.scan then record d.scan { paused = false } else scrub_from d.scan.scope txg }
 
 -- what a task does: a refused one changes nothing
 abbrev pub after_run : ℕ → Data → Task → Data

@@ -1,5 +1,6 @@
 -- The numbers that a pool is made with, and the commands that it takes.
-use Rattle.std.specs.Prelude.{◌≡◌, ℕ, ◌+◌, ◌*◌, ◌/◌, ◌%◌, ◌≤◌, ◌<◌, length, slice_index}
+use Rattle.std.specs.Prelude.{◌≡◌, ℕ, ◌+◌, ◌*◌, ◌/◌, ◌%◌, ◌≤◌, ◌<◌, List, [], ◌∷◌, length, slice_index}
+use Rattle.zs_ids.specs.GraphValid.{Room}
 use Rattle.zs_script.specs.declared.command.Command.{Command}
 use Rattle.zs_script.specs.declared.command.Command.TheVariants as command
 use Rattle.zs_script.specs.Lines.{IsMake, IsRecord}
@@ -23,6 +24,15 @@ pub record IsShape (s : Shape) : Type 0 where
   pub count : length s.sectors ≡ s.devices
   pub least : (k : ℕ) → k < length s.sectors → data_start s.blocks + 32 ≤ slice_index s.sectors k
   pub most : (k : ℕ) → k < length s.sectors → slice_index s.sectors k ≤ 2097152
+
+-- the space ends where the least device does
+pub record IsLeast (end : ℕ) (sectors : List ℕ) : Type 0 where
+  pub some : (k : ℕ) × (k < length sectors) × (slice_index sectors k ≡ end)
+  pub least : (k : ℕ) → k < length sectors → end ≤ slice_index sectors k
+
+-- the room of a pool of one mirror whose space ends at that sector, for that many blocks
+abbrev pub room_in : Shape → ℕ → ℕ → Room
+room_in s end blocks = record { start = data_start s.blocks; ends = end ∷ []; blocks = blocks }
 
 -- the commands that stage a record, queue a task or ask for the status, with numbers in their ranges
 abbrev pub IsPoolCommand : Command → Type 0

@@ -91,7 +91,11 @@ status_reply s v =
 abbrev pub TellsScan : ScanState → Option StateWord → Option ScanStatus → Type 0
 TellsScan scan None told = told ≡ None
 TellsScan scan (Some word) None = ⊥
-TellsScan scan (Some word) (Some told) = (told.kind ≡ kind_word scan.scope.kind) × (told.state ≡ word) × (told.checked ≡ counted (length scan.checked)) × (told.errors ≡ counted (length (filter has_error scan.checked)))
+TellsScan scan (Some word) (Some told) =
+    (told.kind ≡ kind_word scan.scope.kind)
+    × (told.state ≡ word)
+    × (told.checked ≡ counted (length scan.checked))
+    × (told.errors ≡ counted (length (filter has_error scan.checked)))
 
 -- the reply to a `status`: the open transaction group, and how the scan stands, as far as the machine has it
 abbrev pub TellsStatus : PoolState → Reply → Type 0

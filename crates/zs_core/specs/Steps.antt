@@ -1,5 +1,6 @@
 -- The steps of the machine: which state an event leads to, and which replies it may have.
-use Rattle.std.specs.Prelude.{◌≡◌, ℕ, ◌+◌, ◌-◌, ◌*◌, ◌/◌, ◌^◌, ◌==◌, ◌≤◌, unwrap_or, true, false, if◌then◌else◌, List, [], ◌∷◌, ◌++◌, length, filter, fold, map, Option, Some, None, is_some, ◌⊎◌}
+use Rattle.std.specs.Prelude.{◌≡◌, ℕ, ◌+◌, ◌-◌, ◌*◌, ◌/◌, ◌^◌, ◌==◌, ◌≤◌, ◌<◌, unwrap_or, true, false, if◌then◌else◌}
+use Rattle.std.specs.Prelude.{List, [], ◌∷◌, ◌++◌, length, filter, fold, map, Option, Some, None, is_some, ◌⊎◌}
 use Rattle.std.specs.Int.{from_be_bytes, w64}
 use Rattle.zs_ids.specs.declared.key.Key.{Key}
 use Rattle.zs_ids.specs.declared.block.Bp.{Bp}
@@ -28,6 +29,9 @@ use Rattle.zs_script.specs.declared.refusal.Refusal.TheVariants as refusal
 use Rattle.zs_script.specs.declared.reply.Reply.{Reply}
 use Rattle.zs_script.specs.declared.reply.Reply.TheVariants as reply
 use Rattle.zs_script.specs.declared.reply.Finished.{Finished}
+use Rattle.zs_ids.specs.declared.block.Item.{Item}
+use Rattle.zs_core.specs.Born.{AreBornItems}
+use Rattle.zs_core.specs.declared.event.Stage.{Stage}
 use Rattle.zs_core.specs.declared.event.Stage.TheVariants as stage
 use Rattle.zs_core.specs.declared.event.ReadPlan.{ReadPlan}
 use Rattle.zs_core.specs.declared.event.ReadPlan.TheVariants as plan
@@ -62,7 +66,8 @@ KeepsPlace (Some e) place = place ≡ e.place
 abbrev pub IsStagedWith : List (Slot × Staging) → DsId → ℕ → ℕ → ℕ → List (Slot × Staging) → Type 0
 IsStagedWith old ds object sectors fill new =
     (root : Place) × (dnode : Place) × (place : Place) × KeepsPlace (staged_at old (ds, record_key object 0)) place
-    × (new ≡ put_staged (staged_once (staged_once old (ds, root_key) root) (ds, dnode_key object) dnode) (ds, record_key object 0) (record { place = place; sectors = sectors; fill = Some fill }))
+    × (new ≡ put_staged (staged_once (staged_once old (ds, root_key) root) (ds, dnode_key object) dnode) (ds, record_key object 0)
+      (record { place = place; sectors = sectors; fill = Some fill }))
 
 -- a `make`: refused, or the record is staged. Whether there is space for it is left open
 abbrev pub MakeStep : PoolState → DsName → ℕ → ℕ → ℕ → Reply → PoolState → Type 0
@@ -108,17 +113,19 @@ CommandStep s by command.Status answer t = TellsStatus s answer × (t ≡ s)
 CommandStep s by _ answer t = ⊥
 
 -- a line whose events stand before it, with its reply: what a `sync` and a `finish` did is told by the replies of those
--- events, and a `finish` comes to an end where no scan runs unpaused, or no transaction group is left
+-- events, and both end between syncs; a `finish` comes to an end where no scan runs unpaused, or no transaction group is
+-- left. A pool that is suspended refuses each line
 abbrev pub LineStep : PoolState → Command → Reply → Type 0
 LineStep s c (reply.Refused refusal.Suspended) = s.suspended ≡ true
-LineStep s command.Finish (reply.Refused refusal.NoScan) = is_running s.scan ≡ false
-LineStep s command.Finish (reply.Refused refusal.Paused) = (is_running s.scan ≡ true) × (s.scan.paused ≡ true)
-LineStep s command.Finish reply.Nothing = (is_at_work s.scan ≡ false) ⊎ (s.open_txg.txg ≡ TXG_END)
-LineStep s command.Sync reply.Nothing = Unit {0}
-LineStep s (command.Walk n) (reply.Walked turns why waiting) = turns ≤ n
-LineStep s (command.Issue vdev n) (reply.Issued v pieces) = v ≡ vdev
-LineStep s (command.Hold vdev n) (reply.Held v sectors) = v ≡ vdev
-LineStep s command.Land (reply.Landed entries pieces) = Unit {0}
+LineStep s command.Finish (reply.Refused refusal.NoScan) = (s.suspended ≡ false) × (is_running s.scan ≡ false)
+LineStep s command.Finish (reply.Refused refusal.Paused) = (s.suspended ≡ false) × (is_running s.scan ≡ true) × (s.scan.paused ≡ true)
+LineStep s command.Finish reply.Nothing =
+    (s.suspended ≡ false) × (s.stage ≡ stage.Between) × ((is_at_work s.scan ≡ false) ⊎ (s.open_txg.txg ≡ TXG_END))
+LineStep s command.Sync reply.Nothing = (s.suspended ≡ false) × (s.stage ≡ stage.Between)
+LineStep s (command.Walk n) (reply.Walked turns why waiting) = (s.suspended ≡ false) × (turns ≤ n)
+LineStep s (command.Issue vdev n) (reply.Issued v pieces) = (s.suspended ≡ false) × (v ≡ vdev)
+LineStep s (command.Hold vdev n) (reply.Held v sectors) = (s.suspended ≡ false) × (v ≡ vdev)
+LineStep s command.Land (reply.Landed entries pieces) = s.suspended ≡ false
 LineStep s c _ = ⊥
 
 -- the state with an entry more
@@ -162,7 +169,15 @@ AreWritten txg (d ∷ ds) [] = ⊥
 abbrev pub after_data : PoolState → Txg → Data → PoolState
 after_data s txg d =
     let e = after_tasks txg.txg d txg.tasks in
-    record s { graph = e.graph; next_id = e.next_id; scan = e.scan; applied = txg.txg; closed = None; stage = stage.Labelling; answers = task_answers txg.txg d txg.tasks }
+    record s {
+      graph = e.graph;
+      next_id = e.next_id;
+      scan = e.scan;
+      applied = txg.txg;
+      closed = None;
+      stage = stage.Labelling;
+      answers = task_answers txg.txg d txg.tasks;
+    }
 
 -- the scan comes to its end: it is running and not paused, and has checked all that it was to check
 pub record Finishes (s t : PoolState) : Type 0 where
@@ -175,20 +190,25 @@ pub record Finishes (s t : PoolState) : Type 0 where
 abbrev pub EndStep : PoolState → PoolState → Type 0
 EndStep s t = Finishes s t ⊎ (t ≡ record s { finished = false })
 
--- the closed transaction group is applied: its blocks are put over the datasets' own, its tasks run in order,
--- and the scan may come to its end
-pub record DataStep (s t : PoolState) : Type 0 where
+-- the closed transaction group is applied: its blocks are put over the datasets' own, its tasks run in order, and the scan
+-- may come to its end. The items are those of the pieces that are born in it and live then
+pub record DataStep (s : PoolState) (items : List Item) (t : PoolState) : Type 0 where
   pub txg : Txg
   pub was_closed : s.closed ≡ Some txg
   pub graph : Graph
   pub written : AreWritten txg s.graph graph
   pub ended : EndStep (after_data s txg (record { graph = graph; next_id = s.next_id; scan = s.scan })) t
+  pub born : AreBornItems t.graph txg.txg items
 
 -- the line of a scan that came to its end: how many pieces it checked, and how many of them are damaged
 abbrev pub finished_line : PoolState → Option Finished
 finished_line s =
     if s.finished
-    then Some (record { kind = kind_word s.scan.scope.kind; checked = counted (length s.scan.checked); errors = counted (length (filter has_error s.scan.checked)) })
+    then Some (record {
+      kind = kind_word s.scan.scope.kind;
+      checked = counted (length s.scan.checked);
+      errors = counted (length (filter has_error s.scan.checked));
+    })
     else None
 
 -- the reply to a sync that was committed. The one that makes the pool has no text
@@ -246,16 +266,30 @@ pub record ReadEndStep (s : PoolState) (by : ℕ) (p : ReadPlan) (answer : Reply
 abbrev pub no_name : Name
 no_name = record { len = 0; bytes = 0 ∷ 0 ∷ 0 ∷ 0 ∷ 0 ∷ 0 ∷ 0 ∷ 0 ∷ 0 ∷ 0 ∷ 0 ∷ 0 ∷ [] }
 
--- no scan was started yet, over mirrors of that width
-abbrev pub no_scan : ℕ → ScanState
-no_scan width = record { scope = no_scope width; status = status.Never; paused = false; checked = []; saved = 0 }
+-- no scan was started yet, over so many devices in mirrors of that width
+abbrev pub no_scan : ℕ → ℕ → ScanState
+no_scan devices width = record { scope = no_scope devices width; status = status.Never; paused = false; checked = []; saved = 0 }
 
 -- the pool of a `pool` line: the datasets are just the origin, and the empty transaction group 1 is closed
 abbrev pub origin : Dataset
 origin = record { id = record { 0 = 0 }; head = false; owner = no_name; label = no_name; parent = None; creation = 1; entries = [] }
 
 abbrev pub blank_state : ℕ → ℕ → PoolState
-blank_state width devices = record { graph = origin ∷ []; next_id = 1; applied = 0; online = 2 ^ devices - 1; open_txg = empty_txg 2; closed = Some (empty_txg 1); stage = stage.Writing; scan = no_scan width; suspended = false; answers = []; finished = false; reads = [] }
+blank_state width devices = record {
+  graph = origin ∷ [];
+  next_id = 1;
+  applied = 0;
+  devices = devices;
+  online = 2 ^ devices - 1;
+  open_txg = empty_txg 2;
+  closed = Some (empty_txg 1);
+  stage = stage.Writing;
+  scan = no_scan devices width;
+  suspended = false;
+  answers = [];
+  finished = false;
+  reads = [];
+}
 
 -- the event with which a pool's history begins, and the state that it leads to
 abbrev pub Begins : Event → PoolState → Type 0
@@ -265,21 +299,45 @@ Begins e s = begins e.step e.reply
     begins (step.Made (command.Pool pool width limit every blocks)) (reply.Made made mirrors) = (made ≡ pool) × (s ≡ blank_state width (mirrors * width))
     begins _ _ = ⊥
 
--- one step of the machine
+-- the open transaction group is closed, and the next one is open
+abbrev pub begun_sync : PoolState → PoolState
+begun_sync s = record s { open_txg = empty_txg (s.open_txg.txg + 1); closed = Some s.open_txg; stage = stage.Writing }
+
+-- a sync is in progress
+abbrev pub IsSyncing : Stage → Type 0
+IsSyncing stage.Between = ⊥
+IsSyncing stage.Writing = Unit {0}
+IsSyncing stage.Labelling = Unit {0}
+
+-- the state of a pool that was suspended
+abbrev pub halted : PoolState → PoolState
+halted s = record s { suspended = true; stage = stage.Between }
+
+-- one step of the machine. A pool that is suspended takes no turn and no batch, and makes no sync; what was read from its
+-- devices by then may still come in
 abbrev pub Steps : PoolState → Event → PoolState → Type 0
 Steps s e t = steps e.step e.reply
   where
     steps : Step → Reply → Type 0
     steps (step.Command c) answer = CommandStep s e.by c answer t
     steps (step.Line c) answer = LineStep s c answer × (t ≡ s)
-    steps (step.Walk turn) answer = (answer ≡ reply.Nothing) × (t ≡ s)
-    steps (step.Hold number vdev online pieces) answer = (answer ≡ reply.Nothing) × (t ≡ s)
+    steps (step.Walk turn) answer = (answer ≡ reply.Nothing) × (s.suspended ≡ false) × (t ≡ s)
+    steps (step.Hold number vdev online pieces) answer =
+        (answer ≡ reply.Nothing) × (s.suspended ≡ false) × (online ≡ s.online) × (t ≡ s)
     steps (step.Verdict number pieces entries) answer = (answer ≡ reply.Nothing) × VerdictStep s entries t
-    steps step.BeginSync (reply.RefusedSync txg why) = (txg ≡ s.open_txg.txg) × (why ≡ refusal.TxgEnd) × (s.open_txg.txg ≡ TXG_END) × (t ≡ s)
-    steps step.BeginSync answer = (answer ≡ reply.Nothing) × (s.closed ≡ None) × (t ≡ record s { open_txg = empty_txg (s.open_txg.txg + 1); closed = Some s.open_txg; stage = stage.Writing })
-    steps (step.EndData online) answer = (answer ≡ reply.Nothing) × (online ≡ s.online) × DataStep s t
-    steps (step.Committed online) answer = (answer ≡ committed_reply s) × (online ≡ s.online) × (s.stage ≡ stage.Labelling) × (t ≡ record s { stage = stage.Between })
-    steps (step.Suspend online why) answer = (answer ≡ reply.Nothing) × (t.suspended ≡ true)
+    steps step.BeginSync (reply.RefusedSync txg why) =
+        (s.suspended ≡ false) × (s.stage ≡ stage.Between) × (s.open_txg.txg ≡ TXG_END)
+        × (txg ≡ s.open_txg.txg) × (why ≡ refusal.TxgEnd) × (t ≡ s)
+    steps step.BeginSync answer =
+        (answer ≡ reply.Nothing) × (s.suspended ≡ false) × (s.stage ≡ stage.Between) × (s.closed ≡ None) × (s.open_txg.txg < TXG_END)
+        × (t ≡ begun_sync s)
+    steps (step.EndData online items) answer =
+        (answer ≡ reply.Nothing) × (s.suspended ≡ false) × (online ≡ s.online) × DataStep s items t
+    steps (step.Committed online) answer =
+        (answer ≡ committed_reply s) × (s.suspended ≡ false) × (online ≡ s.online) × (s.stage ≡ stage.Labelling)
+        × (t ≡ record s { stage = stage.Between })
+    steps (step.Suspend online why) answer =
+        (answer ≡ reply.Nothing) × (s.suspended ≡ false) × (online ≡ s.online) × IsSyncing s.stage × (t ≡ halted s)
     steps (step.ReadBegin (command.Read ds object leaf) planned) answer = ReadBeginStep s e.by ds object leaf planned answer t
     steps (step.ReadBegin c planned) answer = ⊥
     steps (step.ReadEnd p) answer = ReadEndStep s e.by p answer t

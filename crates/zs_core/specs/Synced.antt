@@ -1,5 +1,14 @@
--- What a sync makes of a scan.
-use Rattle.std.specs.Prelude.{◌≡◌, ◌⊎◌, ℕ, true, List}
+-- What a sync makes of a pool and its scan.
+use Rattle.std.specs.List.Sorted.{IsPermutation}
+use Rattle.zs_ids.specs.declared.block.Bp.{Bp}
+use Rattle.zs_ids.specs.declared.block.Item.{Item}
+use Rattle.zs_ids.specs.declared.key.Key.{Key}
+use Rattle.zs_scan.specs.Walks.{item_of}
+use Rattle.zs_script.specs.declared.reply.Reply.TheVariants as reply
+use Rattle.zs_core.specs.declared.event.Step.TheVariants as step
+use Rattle.zs_core.specs.Steps.{DataStep}
+use Rattle.zs_core.specs.View.{PoolView, AddsEvent}
+use Rattle.std.specs.Prelude.{◌≡◌, ◌⊎◌, ◌++◌, ◌∷◌, [], ℕ, true, List, map}
 use Rattle.zs_ids.specs.declared.block.Piece.{Piece}
 use Rattle.zs_ids.specs.Graph.{Graph, IsLive}
 use Rattle.zs_scan.specs.View.{ScanView}
@@ -24,3 +33,14 @@ pub record IsSynced (pieces : List Piece) (t : ℕ) (old new : ScanView) : Type 
   pub ran_scan : ScanView
   pub ran : HasStarted t freed_scan ran_scan
   pub ends : EndsIfComplete ran_scan new
+
+-- the items are those of the blocks of some pointers
+abbrev pub AreItemsOf : List (Key × Bp) → List Item → Type 0
+AreItemsOf pointers items = IsPermutation (map (λ c. item_of c.1) pointers) items
+
+-- the closed transaction group was applied, which the event tells with the items of its blocks
+pub record AppliesGroup (old new : PoolView) : Type 0 where
+  pub items : List Item
+  pub event : AddsEvent 0 (step.EndData old.core.state.online items) reply.Nothing old.history new.history
+  pub are_items : AreItemsOf old.core.pointers items
+  pub applied : DataStep old.core.state items new.core.state

@@ -14,6 +14,8 @@ use Rattle.zs_script.specs.declared.reply.IssuedPiece.{IssuedPiece}
 use Rattle.zs_script.specs.declared.reply.LandedPiece.{LandedPiece}
 use Rattle.zs_script.specs.declared.reply.Reply.{Reply}
 use Rattle.zs_script.specs.declared.reply.Reply.TheVariants as reply
+use Rattle.zs_core.specs.Flight.{Flying, in_flight, IsOfFlight}
+use Rattle.zs_core.specs.Finishing.{phase_of, is_through}
 use Rattle.zs_core.specs.declared.event.Event.{Event}
 use Rattle.zs_core.specs.declared.event.Step.{Step}
 use Rattle.zs_core.specs.declared.event.Step.TheVariants as step
@@ -35,18 +37,33 @@ issued_of e = record { sector = e.piece.place.sector; letters = map letter_of e.
 abbrev pub landed_of : List Entry → Piece → LandedPiece
 landed_of entries p = record { vdev = p.place.vdev; sector = p.place.sector; letters = option_map (λ e. map letter_of e.copies) (find (λ e. is_piece p e.piece) entries) }
 
--- a turn of the walk, a batch and a verdict belong to the line that follows them
+-- a turn of the walk, a batch, a verdict and a sync that begins belong to the line that follows them
 abbrev pub is_of_line : Step → Bool
 is_of_line (step.Walk turn) = true
 is_of_line (step.Hold number vdev online pieces) = true
 is_of_line (step.Verdict number pieces entries) = true
+is_of_line step.BeginSync = true
 is_of_line _ = false
+
+-- a sync goes on
+abbrev pub is_of_sync : Step → Bool
+is_of_sync (step.EndData online items) = true
+is_of_sync (step.Committed online) = true
+is_of_sync _ = false
+
+-- a step behind others; behind none it stands in no line, as in the sync that makes a pool
+abbrev pub put_behind : List Step → Step → List Step
+put_behind [] s = []
+put_behind (f ∷ fs) s = (f ∷ fs) ++ s ∷ []
 
 -- the steps of a line with one more event: another event closes the line
 abbrev pub with_step : List Step → Event → List Step
-with_step found e = if is_of_line e.step then found ++ e.step ∷ [] else []
+with_step found e =
+    if is_of_line e.step
+    then found ++ e.step ∷ []
+    else (if is_of_sync e.step then put_behind found e.step else [])
 
--- the turns, batches and verdicts at the end of a history, since the last other event
+-- the turns, batches, verdicts and syncs at the end of a history, since the last other event
 abbrev pub line_steps : List Event → List Step
 line_steps es = fold with_step [] es
 
@@ -89,18 +106,23 @@ abbrev pub made_by : Step → ℕ
 made_by (step.Verdict number pieces entries) = length entries
 made_by _ = 0
 
--- the step is a verdict
-abbrev pub IsVerdictStep : Step → Type 0
-IsVerdictStep (step.Verdict number pieces entries) = Unit {0}
-IsVerdictStep _ = ⊥
+-- batches of these numbers or later ones had their verdicts and nothing else, each once and in the order of their numbers
+abbrev pub AreVerdictsFrom : ℕ → List Step → Type 0
+AreVerdictsFrom least [] = Unit {0}
+AreVerdictsFrom least (step.Verdict number [] entries ∷ ss) = ⊥
+AreVerdictsFrom least (step.Verdict number (p ∷ ps) entries ∷ ss) = (least ≤ number) × AreVerdictsFrom (number + 1) ss
+AreVerdictsFrom least (s ∷ ss) = ⊥
 
--- batches had their verdicts and nothing else, with these results and so many entries
+-- batches had their verdicts and nothing else, each once and in order, with these results and so many entries
 abbrev pub TellsLand : List Step → ℕ → List LandedPiece → Type 0
-TellsLand steps made shown = TheyAre steps × (made ≡ fold (λ k s. k + made_by s) 0 steps) × (shown ≡ flat_map shown_by steps)
-  where
-    TheyAre : List Step → Type 0
-    TheyAre [] = Unit {0}
-    TheyAre (s ∷ ss) = IsVerdictStep s × TheyAre ss
+TellsLand steps made shown =
+    AreVerdictsFrom 0 steps × (made ≡ fold (λ k s. k + made_by s) 0 steps) × (shown ≡ flat_map shown_by steps)
+
+-- a `sync` made one sync: it was refused, or its data were written and it was committed
+abbrev pub TellsSync : List Step → Type 0
+TellsSync (step.BeginSync ∷ []) = Unit {0}
+TellsSync (step.BeginSync ∷ step.EndData online items ∷ step.Committed mask ∷ []) = Unit {0}
+TellsSync _ = ⊥
 
 -- what the reply to a line tells of the line's steps
 abbrev pub TellsSteps : List Step → Command → Reply → Type 0
@@ -108,18 +130,25 @@ TellsSteps steps (command.Walk n) (reply.Walked turns why waiting) = AreTurns st
 TellsSteps steps (command.Issue vdev n) (reply.Issued v pieces) = TellsIssue steps vdev n pieces
 TellsSteps steps (command.Hold vdev n) (reply.Held v sectors) = TellsHold steps vdev n sectors
 TellsSteps steps command.Land (reply.Landed entries pieces) = TellsLand steps entries pieces
-TellsSteps steps command.Finish answer = Unit {0}
+TellsSteps steps command.Sync reply.Nothing = TellsSync steps
+TellsSteps steps command.Finish reply.Nothing = is_through (phase_of steps) ≡ true
 TellsSteps steps c answer = steps ≡ []
 
--- what the reply of an event tells of the events before it: just that of a line tells something
+-- a `land` leaves nothing in flight
+abbrev pub LeavesNone : List Flying → Command → Reply → Type 0
+LeavesNone flying command.Land (reply.Landed entries pieces) = flying ≡ []
+LeavesNone flying c answer = Unit {0}
+
+-- what an event tells of the events before it: the reply to a line of the line's steps, and a verdict of its batch
 abbrev pub Tells : List Event → Event → Type 0
 Tells before e = tells e.step
   where
     tells : Step → Type 0
-    tells (step.Line c) = TellsSteps (line_steps before) c e.reply
+    tells (step.Line c) = TellsSteps (line_steps before) c e.reply × LeavesNone (in_flight before) c e.reply
+    tells (step.Verdict number pieces entries) = IsOfFlight (in_flight before) number pieces entries
     tells _ = Unit {0}
 
--- each reply tells of the events before it
+-- each event tells of those before it
 abbrev pub AreTold : List Event → List Event → Type 0
 AreTold before [] = Unit {0}
 AreTold before (e ∷ es) = Tells before e × AreTold (before ++ e ∷ []) es

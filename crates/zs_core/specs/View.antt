@@ -8,7 +8,9 @@ use Rattle.zs_txg.specs.Txg.{Open, entries_for}
 use Rattle.zs_objset.specs.declared.block.StagedBlock.{StagedBlock}
 use Rattle.zs_objset.specs.Staged.{AreBlocksOf}
 use Rattle.zs_core.specs.declared.parts.Head.{Head}
+use Rattle.zs_core.specs.declared.parts.OpenRead.{OpenRead}
 use Rattle.zs_core.specs.declared.parts.Closed.{Closed}
+use Rattle.zs_core.specs.declared.shape.Shape.{Shape}
 use Rattle.zs_core.specs.declared.event.Event.{Event}
 use Rattle.zs_core.specs.declared.event.Step.{Step}
 use Rattle.zs_script.specs.declared.reply.Reply.{Reply}
@@ -48,6 +50,11 @@ abbrev pub closed_of : Option Closed → Option Txg
 closed_of None = None
 closed_of (Some c) = Some (txg_of c.txg)
 
+-- the keys and pointers of the blocks of a transaction group that is closed
+abbrev pub pointers_in : Option Closed → List (Key × Bp)
+pointers_in None = []
+pointers_in (Some c) = c.changes.items
+
 -- the scan as the machine has it, with the number of its saved entries
 abbrev pub scan_of : ScanView → ℕ → ScanState
 scan_of v saved = record { scope = v.scope; status = v.run.status; paused = v.run.paused; checked = v.checked; saved = saved }
@@ -58,6 +65,10 @@ pub record CoreView : Type 0 where
   pub state : PoolState
   -- the scan, with its bookmark, what waits and what is in flight
   pub scan : ScanView
+  -- the keys and pointers of the blocks of the transaction group that is closed
+  pub pointers : List (Key × Bp)
+  -- the numbers that the pool was made with
+  pub shape : Shape
   -- the next sector to be handed out, and the first past the space
   pub next_sector : ℕ
   pub end_sector : ℕ
@@ -75,6 +86,17 @@ data_of head scan saved = record { graph = graph_of head; next_id = next_id_of h
 abbrev pub AddsEvent : ℕ → Step → Reply → List Event → List Event → Type 0
 AddsEvent by step reply old new = new ≡ old ++ record { by = by; step = step; reply = reply } ∷ []
 
--- some event was added to a history
-abbrev pub Adds : List Event → List Event → Type 0
-Adds old new = (e : Event) × (new ≡ old ++ e ∷ [])
+-- the course of a pool is as it was: its stage, whether it is suspended, and its open reads
+pub record KeepsCourse (old new : PoolState) : Type 0 where
+  pub stage : new.stage ≡ old.stage
+  pub suspended : new.suspended ≡ old.suspended
+  pub reads : new.reads ≡ old.reads
+
+-- a pool that is not suspended keeps its open reads
+pub record KeepsReads (old new : PoolState) : Type 0 where
+  pub suspended : new.suspended ≡ old.suspended
+  pub reads : new.reads ≡ old.reads
+
+-- a read more is open
+abbrev pub with_read : CoreView → OpenRead → CoreView
+with_read v r = record v { state = record v.state { reads = v.state.reads ++ r ∷ [] } }

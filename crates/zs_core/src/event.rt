@@ -69,6 +69,8 @@ pub enum Step {
     EndData {
         /// The devices that were online.
         online: u32,
+        /// The pieces that were born in the transaction group and live, in order of place.
+        items: Seq<Item>,
     },
     /// The transaction group is committed.
     Committed {

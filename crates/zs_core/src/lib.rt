@@ -4,10 +4,10 @@
 //! and what is in flight (`ScanView` of `zs_scan`), and the list of events. The machine has no bookmark, no queue and no
 //! order of checking: its scan finishes only where every live piece in scope is checked.
 //! Promise, kept in the type. The history is a run of the machine that leads to the present state, and each line's reply
-//! tells of the events before it (`specs/History`, `specs/Told`). Unless the pool is suspended, its datasets are valid, and
-//! the scan is theirs: each live piece in the scope of a scan that was not canceled is checked, waits, flies or is ahead of
-//! the walk; what waits or flies is live, with its pointer's size and sum; each stands once (`specs/Kept`, `specs/Safe`).
-//! After want of memory a pool is as it was, but in the middle of a sync, where it is suspended.
+//! tells of the events before it (`specs/History`, `specs/Told`). The pool's datasets are valid, also where it is suspended,
+//! and the scan is theirs: each live piece in the scope of a scan that was not canceled is checked, waits, flies or is ahead
+//! of the walk; what waits or flies is live, with its pointer's size and sum; each stands once (`specs/Kept`, `specs/Safe`).
+//! After want of memory a pool is as it was, but that in the middle of a sync it is suspended.
 //!
 //! The sessions of `zscan` call it. Two layers: `present` makes the steps and keeps what is true of the state; `pool` adds
 //! one event per call. To change what a command does see `staging` and `specs/Replies`, `specs/Steps`; the end of a sync
@@ -28,6 +28,8 @@ pub mod shape;
 mod staging;
 mod status;
 mod tasks;
+#[cfg(test)]
+mod tests;
 
 pub use event::{CommitFault, Event, ReadPlan, Stage, Step};
 pub use parts::OpenRead;

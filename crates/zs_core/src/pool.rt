@@ -1,6 +1,6 @@
 //! The pool: its present state, and the history of what happened to it.
 
-ghost use Rattle.std.specs.Prelude.{◌≡◌, ◌≢◌, ◌≤◌, ◌<◌, ◌+◌, ◌++◌, ◌∷◌, [], false, true, length, vec_len, vec_capacity, IfOk, OnOk, OnErr, IsErrOf, MatchOption, take, drop, map, Some, None, OnSome};
+ghost use Rattle.std.specs.Prelude.{◌≡◌, ◌≢◌, ◌≤◌, ◌<◌, ◌+◌, ◌++◌, ◌∷◌, [], false, true, length, vec_len, vec_capacity, IfOk, OnOk, OnErr, IsErrOf, MatchOption, take, drop, map, Some, None, OnSome, IfSome, IfNone};
 ghost use Rattle.std.specs.Option.{option_copied};
 ghost use Rattle.zs_queue.specs.Waiting.{lowest};
 ghost use Rattle.zs_walk.specs.Walking.{runs};
@@ -11,16 +11,22 @@ ghost use Rattle.zs_walk.specs.Left.{turns_left};
 ghost use Rattle.zs_core.specs.Machine.{is_running, is_at_work};
 ghost use Rattle.zs_core.specs.Line.{IsLineReply};
 ghost use Rattle.zs_core.specs.Status.{status_reply};
-ghost use Rattle.zs_core.specs.Steps.{committed_reply, DataStep};
+ghost use Rattle.zs_core.specs.Steps.{committed_reply, CommandStep, DataStep, ReadBeginStep, ReadEndStep, VerdictStep, blank_state, begun_sync, halted};
+ghost use Rattle.zs_core.specs.Replies.{read_refusal};
+ghost use Rattle.zs_core.specs.Flight.{FlyAsTold};
+ghost use Rattle.zs_core.specs.Writes.{AreStagedBlocks, AreInRoom};
+ghost use Rattle.zs_ledger.specs.Entry.{HaveCopies};
+ghost use Rattle.zs_ids.specs.declared.block.Item.{Item};
 ghost use Rattle.zs_core.specs.Judging.{HasVerdict};
-ghost use Rattle.zs_core.specs.Synced.{AreGone, IsSynced};
-ghost use Rattle.zs_core.specs.Safe.{IsSafe, IsFullFor};
-ghost use Rattle.zs_core.specs.Reading.{IsGotFor, HasNoRead};
-ghost use Rattle.zs_core.specs.View.{Adds, AddsEvent};
-ghost use Rattle.std.specs.Prelude.{ℕ, List};
+ghost use Rattle.zs_core.specs.Synced.{AreGone, IsSynced, AppliesGroup};
+ghost use Rattle.zs_objset.specs.Staged.{pointers_of};
+ghost use Rattle.zs_core.specs.Safe.{IsSafe, IsFullFor, next_after};
+ghost use Rattle.zs_core.specs.Reading.{IsGotFor, IsReadReply, EndsIfRead, IsPlanInRoom};
+ghost use Rattle.zs_core.specs.View.{AddsEvent, KeepsCourse, KeepsReads, with_read};
+ghost use Rattle.std.specs.Prelude.{ℕ, List, Option};
 ghost use Rattle.zs_ids.specs.declared.block.Piece.{Piece};
 ghost use Rattle.zs_core.specs.History.{IsHistory};
-ghost use Rattle.zs_core.specs.Shapes.{IsShape, data_start, IsPoolCommand, IsPlain};
+ghost use Rattle.zs_core.specs.Shapes.{IsShape, IsLeast, data_start, room_in, IsPoolCommand, IsPlain};
 
 use crate::event::{CommitFault, Event, ReadPlan, Stage, Step};
 use crate::present::Present;
@@ -79,11 +85,12 @@ impl Model for Pool {
 
     ghost use Rattle.std.specs.Prelude.{◌≤◌, ◌+◌, vec_len, vec_capacity};
     ghost use Rattle.zs_core.specs.History.{IsHistory};
+    ghost use Rattle.zs_core.specs.Flight.{FlyAsTold};
     ghost use Rattle.zs_core.specs.Shapes.{events_due};
 
     ghost view = { λ p. record { core = p.present; history = p.history.items } };
 
-    ghost invariant = { λ p. IsHistory p.history.items p.present.state × (vec_len p.history + events_due p.present.state.stage ≤ vec_capacity p.history) };
+    ghost invariant = { λ p. IsHistory p.history.items p.present.state × (vec_len p.history + events_due p.present.state.stage ≤ vec_capacity p.history) × FlyAsTold p.present.scan.flight p.history.items };
 }
 
 /// Room for an event, and for the two that end a sync in progress.
@@ -187,22 +194,48 @@ fn copied(reply: &Reply) -> Reply
     }
 }
 
-#[tactic(auto, using(crate::proofs::Histories::history_on))]
+/// Another reply like one that ends a read.
+fn read_copied(reply: &Reply) -> Reply
+    requires { IsReadReply reply.now }
+    ensures { result ≡ reply.now }
+{
+    match reply {
+        Reply::Read {
+            ds,
+            object,
+            leaf,
+            value,
+        } => Reply::Read {
+            ds: *ds,
+            object: *object,
+            leaf: *leaf,
+            value: *value,
+        },
+        Reply::ReadHole { ds, object, leaf } => Reply::ReadHole {
+            ds: *ds,
+            object: *object,
+            leaf: *leaf,
+        },
+        Reply::Refused(refusal) => Reply::Refused(*refusal),
+        _ => unreachable!(),
+    }
+}
+
+#[tactic(auto, using(crate::proofs::Histories::history_on, crate::proofs::Flying::fly_still))]
 impl Pool {
     /// Makes a pool: a sync of transaction group 1, in which nothing is staged, is in progress.
     pub fn blank(alloc: Global, shape: Shape) -> Result<Pool, AllocError>
         requires { IsShape shape }
         ensures made { IfOk result (λ p. AddsEvent 0 (Step.Made (Command.Pool shape.pool shape.width shape.limit shape.every shape.blocks)) (Reply.Made shape.pool 1) [] p.history) }
-        ensures stage { IfOk result (λ p. p.core.state.stage ≡ Stage.Writing) }
-        ensures up { IfOk result (λ p. p.core.state.suspended ≡ false) }
-        ensures scan { IfOk result (λ p. p.core.scan ≡ blank_scan shape.width shape.limit p.core.scan.room) }
+        ensures state { IfOk result (λ p. p.core.state ≡ blank_state shape.width shape.devices) }
+        ensures scan { IfOk result (λ p. p.core.scan ≡ blank_scan shape.devices shape.width shape.limit p.core.scan.room) }
+        ensures shape { IfOk result (λ p. p.core.shape ≡ shape) }
+        ensures pointers { IfOk result (λ p. p.core.pointers ≡ []) }
         ensures space { IfOk result (λ p. p.core.next_sector ≡ data_start shape.blocks) }
+        ensures end { IfOk result (λ p. IsLeast p.core.end_sector shape.sectors) }
     {
         let mut history = Vec::new(alloc);
         history.reserve(ROOM)?;
-        let start = shape.data_start();
-        let end = shape.space_end();
-        let present = Present::blank(alloc, shape.devices, shape.width, shape.limit, start, end)?;
         let line = Command::Pool {
             pool: shape.pool,
             width: shape.width,
@@ -218,6 +251,7 @@ impl Pool {
                 mirrors: 1,
             },
         };
+        let present = Present::blank(alloc, shape)?;
         note(&mut history, event);
         Ok(Pool {
             alloc,
@@ -226,11 +260,12 @@ impl Pool {
         })
     }
 
-    /// What is true of each pool: its history is a run of the machine, and unless it is suspended its scan misses nothing:
-    /// each live piece in the scope of a scan that was not canceled is checked, waits, flies or is ahead of the walk.
+    /// What is true of each pool, also of one that is suspended: its history is a run of the machine, and its scan misses
+    /// nothing: each live piece in the scope of a scan that was not canceled is checked, waits, flies or is ahead of the walk.
     pub fn facts(&self)
         ensures run { IsHistory self.now.history self.now.core.state }
-        ensures safe { self.now.core.state.suspended ≡ false → IsSafe self.now.core }
+        ensures safe { IsSafe self.now.core }
+        ensures flight { FlyAsTold self.now.core.scan.flight self.now.history }
     {
         self.present.facts();
     }
@@ -283,10 +318,11 @@ impl Pool {
     pub fn command(&mut self, by: u8, c: &Command) -> Result<Reply, AllocError>
         requires { IsPoolCommand c.now }
         ensures adds { IfOk result (λ answer. self.new.history ≡ self.old.history ++ record { by = by; step = Step.Command c.now; reply = answer } ∷ []) }
-        ensures stage { OnOk result (self.new.core.state.stage ≡ self.old.core.state.stage) }
-        ensures up { OnOk result (self.new.core.state.suspended ≡ self.old.core.state.suspended) }
-        ensures scan { self.new.core.scan ≡ self.old.core.scan }
+        ensures step { IfOk result (λ answer. CommandStep self.old.core.state by c.now answer self.new.core.state) }
+        ensures rest { OnOk result (self.new.core ≡ record self.old.core { state = self.new.core.state; next_sector = self.new.core.next_sector }) }
         ensures space { IfOk result (IsFullFor self.old.core c.now) }
+        ensures next { IfOk result (λ answer. self.new.core.next_sector ≡ next_after self.old.core c.now answer) }
+        ensures kept { OnOk result (KeepsCourse self.old.core.state self.new.core.state) }
         ensures status { c.now ≡ Command.Status → IfOk result (λ answer. answer ≡ status_reply self.old.core.state self.old.core.scan) }
         ensures err { OnErr result (self.new ≡ self.old) }
     {
@@ -339,15 +375,18 @@ impl Pool {
     pub fn begin_sync(&mut self) -> Result<Staged, PoolFault>
         requires between { self.old.core.state.stage ≡ Stage.Between }
         requires up { self.old.core.state.suspended ≡ false }
-        ensures adds { OnOk result (Adds self.old.history self.new.history) }
-        ensures stage { OnOk result (self.new.core.state.stage ≡ Stage.Writing) }
-        ensures up { OnOk result (self.new.core.state.suspended ≡ false) }
         ensures event { OnOk result (AddsEvent 0 Step.BeginSync Reply.Nothing self.old.history self.new.history) }
-        ensures scan { self.new.core.scan ≡ self.old.core.scan }
-        ensures machine { self.new.core.state.scan ≡ self.old.core.state.scan }
+        ensures begun { OnOk result (self.new.core.state ≡ begun_sync self.old.core.state) }
+        ensures left { OnOk result (self.old.core.state.open_txg.txg < TXG_END) }
+        ensures group { IfOk result (λ staged. staged.txg ≡ self.old.core.state.open_txg.txg) }
+        ensures online { IfOk result (λ staged. staged.online ≡ self.old.core.state.online) }
+        ensures blocks { IfOk result (λ staged. AreStagedBlocks self.old.core.state.graph self.old.core.state.open_txg staged.blocks) }
+        ensures within { IfOk result (λ staged. AreInRoom (room_in self.old.core.shape self.old.core.end_sector 0) staged.blocks) }
+        ensures pointers { IfOk result (λ staged. self.new.core.pointers ≡ pointers_of staged.blocks) }
+        ensures rest { self.new.core ≡ record self.old.core { state = self.new.core.state; pointers = self.new.core.pointers } }
         ensures told { IsErrOf result PoolFault.Refused → AddsEvent 0 Step.BeginSync (Reply.RefusedSync 4294967295 Refusal.TxgEnd) self.old.history self.new.history }
         ensures end { IsErrOf result PoolFault.Refused → self.old.core.state.open_txg.txg ≡ 4294967295 }
-        ensures refused { IsErrOf result PoolFault.Refused → Adds self.old.history self.new.history × (self.new.core ≡ self.old.core) }
+        ensures refused { IsErrOf result PoolFault.Refused → self.new.core ≡ self.old.core }
         ensures memory { IsErrOf result PoolFault.Memory → self.new ≡ self.old }
     {
         self.history.reserve(ROOM)?;
@@ -380,29 +419,30 @@ impl Pool {
 
     /// Applies the closed transaction group: its blocks, then its tasks, and the scan may come to its end. The pieces that
     /// are not live any more are freed, a scrub may start or be resumed, and all else of the scan stays as it was. After
-    /// want of memory the pool is suspended.
+    /// want of memory the pool is suspended, and all else of it is as it was.
     pub fn end_data(&mut self) -> Result<(), AllocError>
         requires writing { self.old.core.state.stage ≡ Stage.Writing }
         requires up { self.old.core.state.suspended ≡ false }
-        ensures adds { OnOk result (Adds self.old.history self.new.history) }
-        ensures event { OnOk result (AddsEvent 0 (Step.EndData self.old.core.state.online) Reply.Nothing self.old.history self.new.history) }
+        ensures step { OnOk result (AppliesGroup self.old self.new) }
         ensures ends { OnOk result (IsComplete self.old.core.scan → is_at_work self.new.core.state.scan ≡ false) }
-        ensures step { OnOk result (DataStep self.old.core.state self.new.core.state) }
-        ensures space { OnOk result ((self.new.core.next_sector ≡ self.old.core.next_sector) × (self.new.core.end_sector ≡ self.old.core.end_sector)) }
-        ensures err { OnErr result (AddsEvent 0 (Step.Suspend self.old.core.state.online CommitFault.Memory) Reply.Nothing self.old.history self.new.history × (self.new.core.state.suspended ≡ true)) }
+        ensures rest { OnOk result (self.new.core ≡ record self.old.core { state = self.new.core.state; scan = self.new.core.scan; pointers = [] }) }
         ensures scan { OnOk result ((pieces : List Piece) × AreGone pieces self.old.core.state.graph self.new.core.state.graph × IsSynced pieces self.new.core.state.applied self.old.core.scan self.new.core.scan) }
-        ensures limit { OnOk result (self.new.core.scan.limit ≡ self.old.core.scan.limit) }
         ensures stage { OnOk result (self.new.core.state.stage ≡ Stage.Labelling) }
-        ensures up { OnOk result (self.new.core.state.suspended ≡ false) }
+        ensures kept { OnOk result (KeepsReads self.old.core.state self.new.core.state) }
+        ensures err { OnErr result (AddsEvent 0 (Step.Suspend self.old.core.state.online CommitFault.Memory) Reply.Nothing self.old.history self.new.history × (self.new.core ≡ record self.old.core { state = halted self.old.core.state })) }
     {
         let online = self.present.online();
-        if self.present.apply().is_err() {
+        let Ok(items) = self.present.apply() else {
+            self.present.suspend();
             note(&mut self.history, suspended(online));
             return Err(AllocError);
-        }
+        };
         let event = Event {
             by: 0,
-            step: Step::EndData { online },
+            step: Step::EndData {
+                online,
+                items: Seq::from_vec(items),
+            },
             reply: Reply::Nothing,
         };
         note(&mut self.history, event);
@@ -431,12 +471,9 @@ impl Pool {
     pub fn committed(&mut self) -> Result<(), AllocError>
         requires labelling { self.old.core.state.stage ≡ Stage.Labelling }
         requires up { self.old.core.state.suspended ≡ false }
-        ensures adds { OnOk result (Adds self.old.history self.new.history) }
         ensures event { OnOk result (AddsEvent 0 (Step.Committed self.old.core.state.online) (committed_reply self.old.core.state) self.old.history self.new.history) }
         ensures core { OnOk result (self.new.core ≡ record self.old.core { state = record self.old.core.state { stage = Stage.Between } }) }
-        ensures err { OnErr result (AddsEvent 0 (Step.Suspend self.old.core.state.online CommitFault.Memory) Reply.Nothing self.old.history self.new.history × (self.new.core.state.suspended ≡ true)) }
-        ensures stage { OnOk result (self.new.core.state.stage ≡ Stage.Between) }
-        ensures up { OnOk result (self.new.core.state.suspended ≡ false) }
+        ensures err { OnErr result (AddsEvent 0 (Step.Suspend self.old.core.state.online CommitFault.Memory) Reply.Nothing self.old.history self.new.history × (self.new.core ≡ record self.old.core { state = halted self.old.core.state })) }
     {
         let online = self.present.online();
         let Ok(reply) = self.present.committed_reply() else {
@@ -512,11 +549,9 @@ impl Pool {
     /// Takes what the checks of a batch found, and answers how many entries were made: one for each of its pieces that was
     /// not freed and whose scan still runs; 0 where no such batch is in flight.
     pub fn verdict(&mut self, by: u8, v: &Verdicts) -> Result<usize, AllocError>
-        requires up { self.old.core.state.suspended ≡ false }
+        requires copies { HaveCopies self.old.core.scan.scope.width v.now.entries }
         ensures judged { IfOk result (λ n. HasVerdict by self.old v.now n self.new) }
         ensures core { self.new.core ≡ record self.old.core { state = record self.old.core.state { scan = self.new.core.state.scan }; scan = self.new.core.scan } }
-        ensures stage { self.new.core.state.stage ≡ self.old.core.state.stage }
-        ensures up { self.new.core.state.suspended ≡ self.old.core.state.suspended }
         ensures err { OnErr result (self.new ≡ self.old) }
     {
         self.history.reserve(ROOM)?;
@@ -557,12 +592,12 @@ impl Pool {
         object: u16,
         leaf: u32,
     ) -> Result<ReadPlan, PoolFault>
-        ensures adds { OnOk result (Adds self.old.history self.new.history) }
         ensures event { IfOk result (λ plan. AddsEvent by (Step.ReadBegin (Command.Read ds.now object leaf) (Some plan)) Reply.Nothing self.old.history self.new.history) }
-        ensures told { IsErrOf result PoolFault.Refused → (why : Refusal) × AddsEvent by (Step.ReadBegin (Command.Read ds.now object leaf) None) (Reply.Refused why) self.old.history self.new.history }
-        ensures stage { OnOk result (self.new.core.state.stage ≡ self.old.core.state.stage) }
-        ensures up { OnOk result (self.new.core.state.suspended ≡ self.old.core.state.suspended) }
-        ensures refused { IsErrOf result PoolFault.Refused → Adds self.old.history self.new.history × (self.new.core ≡ self.old.core) }
+        ensures step { IfOk result (λ plan. ReadBeginStep self.old.core.state by ds.now object leaf (Some plan) Reply.Nothing self.new.core.state) }
+        ensures begun { IfOk result (λ plan. self.new.core ≡ with_read self.old.core (record { by = by; ds = ds.now; object = object; leaf = leaf; plan = plan })) }
+        ensures within { IfOk result (IsPlanInRoom (room_in self.old.core.shape self.old.core.end_sector 0)) }
+        ensures told { IsErrOf result PoolFault.Refused → (why : Refusal) × (read_refusal self.old.core.state ds.now object leaf ≡ Some why) × AddsEvent by (Step.ReadBegin (Command.Read ds.now object leaf) None) (Reply.Refused why) self.old.history self.new.history }
+        ensures refused { IsErrOf result PoolFault.Refused → self.new.core ≡ self.old.core }
         ensures memory { IsErrOf result PoolFault.Memory → self.new ≡ self.old }
     {
         self.history.reserve(ROOM)?;
@@ -594,33 +629,36 @@ impl Pool {
         }
     }
 
-    /// Ends the read that was begun last, if it is the client's and has this plan: the reply has the staged fill, is
-    /// `hole`, or has the first eight bytes of those that were got. Answers whether there was such a read.
+    /// Ends the first open read of the client with this plan, and answers its reply: it has the staged fill, is `hole`, or
+    /// has the first eight bytes of those that were got, and where none were got the piece is lost. Answers none, and
+    /// nothing changes, exactly where the client has no open read with this plan.
     pub fn read_end(
         &mut self,
         by: u8,
         plan: ReadPlan,
         got: Option<&[u8]>,
-    ) -> Result<bool, AllocError>
-        requires { IsGotFor plan (option_copied got) }
-        ensures adds { IfOk result (λ ended. ended ≡ true → Adds self.old.history self.new.history) }
-        ensures event { IfOk result (λ ended. ended ≡ true → (reply : Reply) × AddsEvent by (Step.ReadEnd plan) reply self.old.history self.new.history) }
-        ensures none { IfOk result (λ ended. ended ≡ false → self.new ≡ self.old) }
-        ensures absent { IfOk result (λ ended. ended ≡ false → HasNoRead self.old.core.state.reads by plan) }
-        ensures stage { OnOk result (self.new.core.state.stage ≡ self.old.core.state.stage) }
-        ensures up { OnOk result (self.new.core.state.suspended ≡ self.old.core.state.suspended) }
+    ) -> Result<Option<Reply>, AllocError>
+        ghost bytes: { Option (List ℕ) }
+        requires got { option_copied got ≡ bytes }
+        requires fits { IsGotFor plan bytes }
+        ensures event { IfOk result (λ ended. IfSome ended (λ reply. AddsEvent by (Step.ReadEnd plan) reply self.old.history self.new.history)) }
+        ensures step { IfOk result (λ ended. IfSome ended (λ reply. ReadEndStep self.old.core.state by plan reply self.new.core.state)) }
+        ensures ended { IfOk result (EndsIfRead by plan bytes self.old.core.state.reads self.new.core.state.reads) }
+        ensures rest { self.new.core ≡ record self.old.core { state = record self.old.core.state { reads = self.new.core.state.reads } } }
+        ensures absent { IfOk result (λ ended. IfNone ended (self.new ≡ self.old)) }
         ensures err { OnErr result (self.new ≡ self.old) }
     {
         self.history.reserve(ROOM)?;
         let Some(reply) = self.present.read_end(by, &plan, got) else {
-            return Ok(false);
+            return Ok(None);
         };
+        let copy = read_copied(&reply);
         let event = Event {
             by,
             step: Step::ReadEnd(plan),
-            reply,
+            reply: copy,
         };
         note(&mut self.history, event);
-        Ok(true)
+        Ok(Some(reply))
     }
 }

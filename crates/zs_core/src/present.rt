@@ -1,19 +1,22 @@
 //! The present state of a pool: each call makes one step of the machine.
 
 ghost use Rattle.std.specs.Prelude.{◌≡◌, ◌<◌, ◌≤◌, ◌+◌, ◌++◌, ◌∷◌, [], None, Some, true, false, IfOk, OnOk, OnErr, take, drop, length, if◌then◌else◌};
-ghost use Rattle.zs_objset.specs.Staged.{pointers_of};
+ghost use Rattle.zs_txg.specs.Txg.{entries_for};
+ghost use Rattle.zs_objset.specs.Staged.{pointers_of, AreSized};
 ghost use Rattle.zs_core.specs.Machine.{PoolState, is_running};
 ghost use Rattle.zs_walk.specs.Walking.{runs};
 ghost use Rattle.zs_scan.specs.Steps.{blank_scan};
-ghost use Rattle.zs_core.specs.Steps.{TaskStep, blank_state, empty_txg, committed_reply, finished_line};
+ghost use Rattle.zs_core.specs.Steps.{TaskStep, blank_state, empty_txg, committed_reply, finished_line, begun_sync, halted};
+ghost use Rattle.zs_core.specs.Writes.{AreStagedBlocks, AreInRoom};
 ghost use Rattle.zs_core.specs.Replies.{task_reply, after_queued};
-ghost use Rattle.zs_core.specs.Shapes.{IsPlain};
+ghost use Rattle.zs_core.specs.Shapes.{IsPlain, IsShape, IsLeast, data_start, room_in};
 ghost use Rattle.zs_core.specs.Safe.{IsSafe};
-ghost use Rattle.zs_core.specs.View.{CoreView, AreHeadsBlocks};
+ghost use Rattle.zs_core.specs.View.{CoreView, AreHeadsBlocks, KeepsCourse};
 
 use crate::event::Stage;
 use crate::heads::Heads;
 use crate::parts::{Closed, Head, OpenRead};
+use crate::shape::Shape;
 use crate::status::{counted, kind_word};
 use std::alloc::{AllocError, Global};
 use std::marker::Model;
@@ -28,6 +31,7 @@ use zs_txg::{OpenTxg, Task};
 #[derive(Drop)]
 pub(crate) struct Present {
     pub(crate) alloc: Global,
+    pub(crate) shape: Shape,
     pub(crate) online: u32,
     pub(crate) next_sector: u32,
     pub(crate) end_sector: u32,
@@ -49,38 +53,34 @@ impl Model for Present {
 
     ghost Value = { CoreView };
 
-    ghost use Rattle.zs_core.specs.Kept.{view_of, IsKept};
+    ghost use Rattle.zs_core.specs.Kept.{view_of, Facts};
 
     ghost view = { view_of };
 
-    ghost invariant = { IsKept };
+    ghost invariant = { Facts };
 }
 
 impl Present {
-    /// The state of a pool that is made on so many devices, in mirrors of that width, whose space is from one sector to
-    /// another, and in which at most `limit` pieces may wait.
-    pub(crate) fn blank(
-        alloc: Global,
-        devices: u8,
-        width: u8,
-        limit: u32,
-        start: u32,
-        end: u32,
-    ) -> Result<Self, AllocError>
-        requires devices { devices ≤ 16 }
-        requires some_may { 1 ≤ limit }
-        requires space { start ≤ end }
-        requires end { end ≤ 2097152 }
-        ensures state { IfOk result (λ p. p.state ≡ blank_state width devices) }
-        ensures scan { IfOk result (λ p. p.scan ≡ blank_scan width limit p.scan.room) }
-        ensures space { IfOk result (λ p. p.next_sector ≡ start) }
+    /// The state of a pool that is made with these numbers.
+    pub(crate) fn blank(alloc: Global, shape: Shape) -> Result<Self, AllocError>
+        requires { IsShape shape }
+        ensures state { IfOk result (λ p. p.state ≡ blank_state shape.width shape.devices) }
+        ensures scan { IfOk result (λ p. p.scan ≡ blank_scan shape.devices shape.width shape.limit p.scan.room) }
+        ensures shape { IfOk result (λ p. p.shape ≡ shape) }
+        ensures pointers { IfOk result (λ p. p.pointers ≡ []) }
+        ensures space { IfOk result (λ p. p.next_sector ≡ data_start shape.blocks) }
+        ensures end { IfOk result (λ p. IsLeast p.end_sector shape.sectors) }
     {
-        let scan = Scan::blank(alloc, width, limit)?;
+        let scan = Scan::blank(alloc, shape.devices, shape.width, shape.limit)?;
+        let online = (1u32 << shape.devices) - 1;
+        let next_sector = shape.data_start();
+        let end_sector = shape.space_end();
         Ok(Present {
             alloc,
-            online: (1u32 << devices) - 1,
-            next_sector: start,
-            end_sector: end,
+            shape,
+            online,
+            next_sector,
+            end_sector,
             heads: Heads { head: None },
             applied: 0,
             open: OpenTxg::new(alloc, 2),
@@ -98,9 +98,9 @@ impl Present {
         })
     }
 
-    /// What is true of a state that is not suspended.
+    /// What is true of each state.
     pub(crate) fn facts(&self)
-        ensures { self.now.state.suspended ≡ false → IsSafe self.now }
+        ensures { IsSafe self.now }
     {
         self.scan.facts();
     }
@@ -152,7 +152,7 @@ impl Present {
     /// The open transaction group.
     pub(crate) fn open_txg(&self) -> u64
         ensures txg { result ≡ self.now.state.open_txg.txg }
-        ensures limit { self.now.state.suspended ≡ false → result ≤ TXG_END }
+        ensures limit { result ≤ TXG_END }
     {
         self.open.txg()
     }
@@ -161,8 +161,7 @@ impl Present {
     pub(crate) fn queue(&mut self, by: u8, task: Task) -> Result<Reply, AllocError>
         ensures step { IfOk result (λ answer. TaskStep self.old.state by task answer self.new.state) }
         ensures plain { IfOk result IsPlain }
-        ensures stage { self.new.state.stage ≡ self.old.state.stage }
-        ensures suspended { self.new.state.suspended ≡ self.old.state.suspended }
+        ensures kept { KeepsCourse self.old.state self.new.state }
         ensures rest { OnOk result (self.new ≡ record self.old { state = self.new.state }) }
         ensures err { OnErr result (self.new ≡ self.old) }
     {
@@ -184,8 +183,11 @@ impl Present {
         requires up { self.old.state.suspended ≡ false }
         requires room { self.old.state.open_txg.txg < TXG_END }
         ensures was { OnOk result (self.old.state.closed ≡ None) }
-        ensures step { OnOk result (self.new.state ≡ record self.old.state { open_txg = empty_txg (self.old.state.open_txg.txg + 1); closed = Some self.old.state.open_txg; stage = Stage.Writing }) }
-        ensures rest { OnOk result (self.new ≡ record self.old { state = self.new.state }) }
+        ensures blocks { IfOk result (λ blocks. AreStagedBlocks self.old.state.graph self.old.state.open_txg blocks.items) }
+        ensures within { IfOk result (λ blocks. AreInRoom (room_in self.old.shape self.old.end_sector 0) blocks.items) }
+        ensures step { OnOk result (self.new.state ≡ begun_sync self.old.state) }
+        ensures pointers { IfOk result (λ blocks. self.new.pointers ≡ pointers_of blocks.items) }
+        ensures rest { OnOk result (self.new ≡ record self.old { state = self.new.state; pointers = self.new.pointers }) }
         ensures err { OnErr result (self.new ≡ self.old) }
     {
         let txg = self.open.txg();
@@ -238,10 +240,9 @@ impl Present {
         self.stage = Stage::Between;
     }
 
-    /// Suspends the pool.
+    /// Suspends the pool. Nothing else changes.
     pub(crate) fn suspend(&mut self)
-        ensures suspended { self.new.state.suspended ≡ true }
-        ensures stage { self.new.state.stage ≡ Stage.Between }
+        ensures { self.new ≡ record self.old { state = halted self.old.state } }
     {
         self.suspended = true;
         self.stage = Stage::Between;
@@ -252,12 +253,13 @@ impl Present {
 fn staged_of(
     alloc: Global,
     head: &Option<Head>,
-    open: &OpenTxg,
+    txg: &OpenTxg,
 ) -> Result<Vec<StagedBlock>, AllocError>
-    ensures { IfOk result (λ v. AreHeadsBlocks head.now open.now v.items) }
+    ensures blocks { IfOk result (λ v. AreHeadsBlocks head.now txg.now v.items) }
+    ensures sized { IfOk result (λ v. (h : Head) → head.now ≡ Some h → AreSized (entries_for txg.now.staged h.id) v.items) }
 {
     match head {
-        Some(head) => Ok(staged_blocks(alloc, &head.map, head.id, open)?),
+        Some(head) => Ok(staged_blocks(alloc, &head.map, head.id, txg)?),
         None => Ok(Vec::new(alloc)),
     }
 }

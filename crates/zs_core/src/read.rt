@@ -1,6 +1,6 @@
 //! Reads: where an answer comes from, and what is answered.
 
-ghost use Rattle.std.specs.Prelude.{◌≡◌, IfOk, OnErr, IfSome, IfNone, OnSome, ◌≤◌, true, IsTrue, ◌↔◌, length, ◌++◌, ◌∷◌, [], ℕ};
+ghost use Rattle.std.specs.Prelude.{◌≡◌, IfOk, OnErr, IfSome, IfNone, OnSome, ◌≤◌, true, IsTrue, ◌↔◌, length, ◌++◌, ◌∷◌, [], ℕ, List, Option, None};
 ghost use Rattle.std.specs.Option.{option_copied};
 ghost use Rattle.std.specs.Int.{from_be_bytes, w64};
 ghost use Rattle.zs_ids.specs.Key.{record_key};
@@ -11,8 +11,9 @@ ghost use Rattle.zs_core.specs.Replies.{read_refusal};
 ghost use Rattle.zs_core.specs.Steps.{ReadBeginStep, ReadEndStep, IsReadAnswer, plan_from};
 ghost use Rattle.std.specs.Prelude.{Ok};
 ghost use Rattle.zs_core.specs.View.{dataset_of};
+ghost use Rattle.zs_core.specs.Shapes.{room_in};
 ghost use Rattle.zs_script.specs.declared.refusal.Refusal.{Refusal};
-ghost use Rattle.zs_core.specs.Reading.{planned_of, begun_reply, IsGotFor, IsReadReply, HasNoRead};
+ghost use Rattle.zs_core.specs.Reading.{planned_of, begun_reply, IsGotFor, IsReadReply, HasNoRead, IsFirstRead, EndsRead, IsBegunInRoom, IsPlacedAt, got_reply, read_reply};
 
 use crate::event::ReadPlan;
 use crate::parts::{Head, OpenRead};
@@ -69,15 +70,13 @@ impl Present {
 
     /// Where the answer of a read of the head comes from.
     fn plan(&self, head: &Head, object: u16, leaf: u32) -> ReadPlan
-        ensures { result ≡ plan_from (staged_record self.now.state head.now.id (record_key object leaf)) (bp_at head.now.map.map.entries (record_key object leaf)) self.now.state.online }
+        ensures plan { result ≡ plan_from (staged_record self.now.state head.now.id (record_key object leaf)) (bp_at head.now.map.map.entries (record_key object leaf)) self.now.state.online }
+        ensures placed { staged_record self.now.state head.now.id (record_key object leaf) ≡ None → IsPlacedAt (bp_at head.now.map.map.entries (record_key object leaf)) }
     {
         if let Some(staging) = self.staging(head.id, key_of(object, leaf)) {
             return ReadPlan::Staged(staging.fill.unwrap_or(0));
         }
-        match head.map.get(key_of(object, leaf)) {
-            Some(bp) => ReadPlan::Pinned(item_of(&bp), self.online),
-            None => ReadPlan::Hole,
-        }
+        mapped_plan(head, key_of(object, leaf), self.online)
     }
 
     /// Begins a read. After want of memory nothing has changed.
@@ -92,6 +91,7 @@ impl Present {
         ensures stage { self.new.state.stage ≡ self.old.state.stage }
         ensures suspended { self.new.state.suspended ≡ self.old.state.suspended }
         ensures refused { (why : Refusal) → result ≡ Ok (Begun.Refused why) → self.new ≡ self.old }
+        ensures within { IfOk result (λ b. IsBegunInRoom (room_in self.old.shape self.old.end_sector 0) (planned_of b)) }
         ensures rest { self.new ≡ record self.old { state = self.new.state } }
         ensures err { OnErr result (self.new ≡ self.old) }
     {
@@ -113,28 +113,55 @@ impl Present {
         Ok(Begun::Planned(plan))
     }
 
-    /// Ends the read that was begun last, if it is the client's and has this plan, and answers its reply: the staged
-    /// fill, `hole`, or the first eight bytes of those that were got, which hash to the piece's sum; where none were
-    /// got, that they are lost.
+    /// Ends the first open read of the client with this plan, and answers its reply: the staged fill, `hole`, or the first
+    /// eight bytes of those that were got, which hash to the piece's sum; where none were got, that they are lost. Answers
+    /// none, and nothing changes, where the client has no such read.
     pub(crate) fn read_end(&mut self, by: u8, plan: &ReadPlan, got: Option<&[u8]>) -> Option<Reply>
-        requires { IsGotFor plan.now (option_copied got) }
+        ghost bytes: { Option (List ℕ) }
+        requires got { option_copied got ≡ bytes }
+        requires fits { IsGotFor plan.now bytes }
         ensures step { IfSome result (λ answer. ReadEndStep self.old.state by plan.now answer self.new.state) }
-        ensures stage { self.new.state.stage ≡ self.old.state.stage }
-        ensures suspended { self.new.state.suspended ≡ self.old.state.suspended }
-        ensures rest { self.new ≡ record self.old { state = self.new.state } }
+        ensures ended { IfSome result (λ answer. EndsRead by plan.now bytes self.old.state.reads answer self.new.state.reads) }
+        ensures rest { self.new ≡ record self.old { state = record self.old.state { reads = self.new.state.reads } } }
         ensures none { IfNone result (self.new ≡ self.old) }
         ensures absent { IfNone result (HasNoRead self.old.state.reads by plan.now) }
         ensures answer { IfSome result IsReadReply }
     {
-        let Some(read) = self.reads.pop() else {
-            return None;
-        };
-        if read.by != by || !is_same_plan(&read.plan, plan) {
-            self.reads.push_reserved(read);
-            return None;
-        }
+        let found = find_read(&self.reads, by, plan)?;
+        let read = self.reads.remove(found);
         Some(answer_of(&read, got))
     }
+}
+
+/// Where the answer of a read comes from that is not staged.
+fn mapped_plan(head: &Head, key: Key, online: u32) -> ReadPlan
+    ensures plan { result ≡ plan_from None (bp_at head.now.map.map.entries key) online }
+    ensures placed { IsPlacedAt (bp_at head.now.map.map.entries key) }
+{
+    match head.map.get(key) {
+        Some(bp) => ReadPlan::Pinned(item_of(&bp), online),
+        None => ReadPlan::Hole,
+    }
+}
+
+/// Where the first open read of the client with this plan stands, if there is one.
+fn find_read(reads: &[OpenRead], by: u8, plan: &ReadPlan) -> Option<usize>
+    ensures found { IfSome result (λ i. IsFirstRead reads.now by plan.now i) }
+    ensures absent { IfNone result (HasNoRead reads.now by plan.now) }
+{
+    for (i, read) in reads.iter().enumerate() {
+        if is_read_of(read, by, plan) {
+            return Some(i);
+        }
+    }
+    None
+}
+
+/// Whether the open read is the client's, with this plan.
+fn is_read_of(read: &OpenRead, by: u8, plan: &ReadPlan) -> bool
+    ensures { IsTrue result ↔ (read.now.by ≡ by) × (read.now.plan ≡ plan.now) }
+{
+    read.by == by && is_same_plan(&read.plan, plan)
 }
 
 /// Whether the two items are one.
@@ -177,7 +204,10 @@ fn number_of(bytes: &[u8]) -> u64
 
 /// The reply to an open read.
 fn answer_of(read: &OpenRead, got: Option<&[u8]>) -> Reply
-    requires { IsGotFor read.now.plan (option_copied got) }
+    ghost bytes: { Option (List ℕ) }
+    requires got { option_copied got ≡ bytes }
+    requires fits { IsGotFor read.now.plan bytes }
+    ensures reply { result ≡ read_reply read.now read.now.plan bytes }
     ensures answer { IsReadAnswer read.now read.now.plan result }
     ensures plain { IsReadReply result }
 {

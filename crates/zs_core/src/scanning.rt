@@ -8,6 +8,7 @@ ghost use Rattle.zs_core.specs.Judging.{entries_in, IsJudged};
 ghost use Rattle.zs_scan.specs.Walks.{Walked, IsFull};
 ghost use Rattle.zs_walk.specs.Left.{turns_left};
 ghost use Rattle.zs_core.specs.Steps.{VerdictStep};
+ghost use Rattle.zs_ledger.specs.Entry.{HaveCopies};
 ghost use Rattle.zs_scan.specs.Steps.{IsVerdict, Judged, still_flying};
 
 use crate::present::Present;
@@ -54,12 +55,11 @@ impl Present {
         number: u64,
         entries: &[Entry],
     ) -> Result<Option<Vec<Entry>>, AllocError>
-        requires up { self.old.state.suspended ≡ false }
+        requires copies { HaveCopies self.old.scan.scope.width entries.now }
         ensures step { IfOk result (λ made. VerdictStep self.old.state (entries_in (option_map (λ v. v.items) made)) self.new.state) }
         ensures judged { IfOk result (λ made. IsJudged self.old.scan number entries.now (option_map (λ v. v.items) made) self.new.scan) }
         ensures none { result ≡ Ok None → self.new ≡ self.old }
         ensures stage { self.new.state.stage ≡ self.old.state.stage }
-        ensures suspended { self.new.state.suspended ≡ false }
         ensures rest { self.new ≡ record self.old { state = record self.old.state { scan = self.new.state.scan }; scan = self.new.scan } }
         ensures err { OnErr result (self.new ≡ self.old) }
     {

@@ -1,7 +1,7 @@
 //! The numbers that a pool is made with.
 
 ghost use Rattle.std.specs.Prelude.{◌≡◌, ◌≤◌, ◌+◌, ◌*◌, ◌/◌};
-ghost use Rattle.zs_core.specs.Shapes.{IsShape, data_start};
+ghost use Rattle.zs_core.specs.Shapes.{IsShape, IsLeast, data_start};
 
 use zs_ids::Seq;
 
@@ -45,12 +45,14 @@ impl Shape {
     /// The first sector past the space: the size of the least device.
     pub fn space_end(&self) -> u32
         requires { IsShape self.now }
-        ensures large { data_start self.now.blocks ≤ result }
-        ensures small { result ≤ 2097152 }
+        ensures { IsLeast result self.now.sectors }
     {
-        let mut end = 2_097_152;
-        for sectors in self.sectors.as_slice() {
-            end = end.min(*sectors);
+        let all = self.sectors.as_slice();
+        let mut end = all[0];
+        for sectors in all {
+            if *sectors < end {
+                end = *sectors;
+            }
         }
         end
     }

@@ -5,12 +5,14 @@ ghost use Rattle.zs_ids.specs.Key.{root_key, dnode_key, record_key};
 ghost use Rattle.zs_txg.specs.Txg.{staged_at, put_staged};
 ghost use Rattle.zs_core.specs.Machine.{is_named, has_object, staged_record, record_sectors};
 ghost use Rattle.zs_core.specs.Replies.{make_refusal, write_refusal};
+ghost use Rattle.zs_script.specs.declared.command.Command.TheVariants.{Make, Write};
 ghost use Rattle.zs_script.specs.Lines.{IsMake};
 ghost use Rattle.zs_core.specs.Steps.{MakeStep, WriteStep, staged_once};
 ghost use Rattle.zs_core.specs.Placed.{staged_again};
 ghost use Rattle.zs_core.specs.Shapes.{IsPlain};
-ghost use Rattle.zs_core.specs.View.{dataset_of};
-ghost use Rattle.zs_core.specs.Kept.{sectors_to_stage, IsFullExactly};
+ghost use Rattle.zs_core.specs.View.{dataset_of, KeepsCourse};
+ghost use Rattle.zs_core.specs.Safe.{IsFullFor, next_after};
+ghost use Rattle.zs_core.specs.Kept.{sectors_to_stage};
 
 use crate::parts::Head;
 use crate::present::Present;
@@ -56,18 +58,18 @@ pub(crate) fn is_head_named(head: &Head, ds: &DsName) -> bool
 }
 
 /// Stages a block of pointers at the next sector, unless one is staged at the key.
-fn stage_once(open: &mut OpenTxg, ds: DsId, key: Key, sector: u32) -> u32
-    requires room { 1 ≤ open.old.room }
+fn stage_once(txg: &mut OpenTxg, ds: DsId, key: Key, sector: u32) -> u32
+    requires room { 1 ≤ txg.old.room }
     requires fits { sector + 8 < 2 ^ 32 }
-    ensures staged { open.new ≡ record open.old { staged = staged_once open.old.staged (ds, key) (record { vdev = 0; sector = sector }); room = open.new.room } }
-    ensures room { open.old.room ≤ open.new.room + 1 }
-    ensures next { result ≡ (if is_some (staged_at open.old.staged (ds, key)) then sector else sector + 8) }
+    ensures staged { txg.new ≡ record txg.old { staged = staged_once txg.old.staged (ds, key) (record { vdev = 0; sector = sector }); room = txg.new.room } }
+    ensures room { txg.old.room ≤ txg.new.room + 1 }
+    ensures next { result ≡ (if is_some (staged_at txg.old.staged (ds, key)) then sector else sector + 8) }
 {
-    if open.get(ds, key).is_some() {
+    if txg.get(ds, key).is_some() {
         return sector;
     }
     let place = Place { vdev: 0, sector };
-    if open.stage(ds, key, place, POINTERS, None).is_err() {
+    if txg.stage(ds, key, place, POINTERS, None).is_err() {
         unreachable!();
     }
     sector + 8
@@ -166,9 +168,9 @@ impl Present {
         requires numbers { IsMake object 1 size }
         ensures step { IfOk result (λ answer. MakeStep self.old.state ds.now object size fill answer self.new.state) }
         ensures plain { IfOk result IsPlain }
-        ensures stage { self.new.state.stage ≡ self.old.state.stage }
-        ensures suspended { self.new.state.suspended ≡ self.old.state.suspended }
-        ensures space { IfOk result (λ answer. IsFullExactly self.old (make_refusal self.old.state ds.now object) ds.now object (λ d. size / 512) answer) }
+        ensures kept { KeepsCourse self.old.state self.new.state }
+        ensures space { IfOk result (IsFullFor self.old (Make ds.now object 1 size fill)) }
+        ensures next { IfOk result (λ answer. self.new.next_sector ≡ next_after self.old (Make ds.now object 1 size fill) answer) }
         ensures rest { OnOk result (self.new ≡ record self.old { state = self.new.state; next_sector = self.new.next_sector }) }
         ensures err { OnErr result (self.new ≡ self.old) }
     {
@@ -204,9 +206,9 @@ impl Present {
     ) -> Result<Reply, AllocError>
         ensures step { IfOk result (λ answer. WriteStep self.old.state ds.now object leaf fill answer self.new.state) }
         ensures plain { IfOk result IsPlain }
-        ensures stage { self.new.state.stage ≡ self.old.state.stage }
-        ensures suspended { self.new.state.suspended ≡ self.old.state.suspended }
-        ensures space { IfOk result (λ answer. IsFullExactly self.old (write_refusal self.old.state ds.now object leaf) ds.now object (λ d. record_sectors self.old.state d object) answer) }
+        ensures kept { KeepsCourse self.old.state self.new.state }
+        ensures space { IfOk result (IsFullFor self.old (Write ds.now object leaf fill)) }
+        ensures next { IfOk result (λ answer. self.new.next_sector ≡ next_after self.old (Write ds.now object leaf fill) answer) }
         ensures rest { OnOk result (self.new ≡ record self.old { state = self.new.state; next_sector = self.new.next_sector }) }
         ensures err { OnErr result (self.new ≡ self.old) }
     {
@@ -234,21 +236,21 @@ impl Present {
 }
 
 /// How many sectors the record of an object needs with the blocks above it, of those that are not staged yet.
-fn sectors_needed(open: &OpenTxg, ds: DsId, object: u16, sectors: u16) -> u32
-    ensures needed { result ≡ sectors_to_stage open.now.staged ds object sectors }
+fn sectors_needed(txg: &OpenTxg, ds: DsId, object: u16, sectors: u16) -> u32
+    ensures needed { result ≡ sectors_to_stage txg.now.staged ds object sectors }
     ensures few { result ≤ 65551 }
 {
-    let root: u32 = if open.get(ds, Key::ROOT).is_some() {
+    let root: u32 = if txg.get(ds, Key::ROOT).is_some() {
         0
     } else {
         8
     };
-    let dnode: u32 = if open.get(ds, dnode_key(object)).is_some() {
+    let dnode: u32 = if txg.get(ds, dnode_key(object)).is_some() {
         0
     } else {
         8
     };
-    let record: u32 = if open.get(ds, record_key(object)).is_some() {
+    let record: u32 = if txg.get(ds, record_key(object)).is_some() {
         0
     } else {
         u32::from(sectors)
@@ -259,7 +261,7 @@ fn sectors_needed(open: &OpenTxg, ds: DsId, object: u16, sectors: u16) -> u32
 /// Stages record 0 of an object, with the blocks above it, those that are not staged yet from a sector on. A record that
 /// is staged keeps its place.
 fn stage_record(
-    open: &mut OpenTxg,
+    txg: &mut OpenTxg,
     ds: DsId,
     object: u16,
     sectors: u16,
@@ -267,19 +269,19 @@ fn stage_record(
     sector: u32,
 ) -> Result<(), AllocError>
     requires { sector + 16 < 2 ^ 32 }
-    ensures kept { open.new ≡ record open.old { staged = open.new.staged; room = open.new.room } }
-    ensures staged { OnOk result (open.new.staged ≡ staged_again open.old.staged ds object sectors (Some fill) sector) }
-    ensures err { OnErr result (open.new.staged ≡ open.old.staged) }
+    ensures kept { txg.new ≡ record txg.old { staged = txg.new.staged; room = txg.new.room } }
+    ensures staged { OnOk result (txg.new.staged ≡ staged_again txg.old.staged ds object sectors (Some fill) sector) }
+    ensures err { OnErr result (txg.new.staged ≡ txg.old.staged) }
 {
-    open.reserve(3)?;
-    let next = stage_once(open, ds, Key::ROOT, sector);
-    let sector = stage_once(open, ds, dnode_key(object), next);
+    txg.reserve(3)?;
+    let next = stage_once(txg, ds, Key::ROOT, sector);
+    let sector = stage_once(txg, ds, dnode_key(object), next);
     let record = record_key(object);
-    let place = match open.get(ds, record) {
+    let place = match txg.get(ds, record) {
         Some(staging) => staging.place,
         None => Place { vdev: 0, sector },
     };
-    if open.stage(ds, record, place, sectors, Some(fill)).is_err() {
+    if txg.stage(ds, record, place, sectors, Some(fill)).is_err() {
         unreachable!();
     }
     Ok(())

@@ -1,13 +1,13 @@
 //! Running the tasks of a transaction group.
 
-ghost use Rattle.std.specs.Prelude.{◌≡◌, IfOk, OnOk};
+ghost use Rattle.std.specs.Prelude.{◌≡◌, ◌≤◌, ◌+◌, [], length, vec_len, vec_capacity};
 ghost use Rattle.zs_core.specs.Replies.{task_refusal, after_run, task_answers, after_tasks};
 ghost use Rattle.zs_core.specs.View.{data_of};
 ghost use Rattle.zs_core.specs.Running.{RunsOn};
 
 use crate::heads::Heads;
 use crate::parts::Head;
-use std::alloc::{AllocError, Global};
+use std::alloc::Global;
 use zs_flat::Flat;
 use zs_ids::{DsId, Name};
 use zs_scan::Scan;
@@ -74,27 +74,28 @@ pub(crate) fn run_task(
     match task {
         Task::Fs(name) => run_fs(alloc, txg, *name, heads, scan, *saved),
         Task::Scrub => run_scrub(txg, heads, scan, saved),
-        _ => None,
     }
 }
 
-/// Runs the tasks of a transaction group in order, and answers why each is refused.
+/// Runs the tasks of a transaction group in order, and puts why each is refused into the list, which is empty and has room for
+/// the answers. Takes no memory.
 pub(crate) fn run_tasks(
     alloc: Global,
     txg: &OpenTxg,
     heads: &mut Heads,
     scan: &mut Scan,
     saved: &mut usize,
-) -> Result<Vec<Option<Refusal>>, AllocError>
-    ensures answers { IfOk result (λ v. v.items ≡ task_answers txg.now.txg (data_of heads.old.head scan.old saved.old) txg.now.tasks) }
-    ensures after { OnOk result (data_of heads.new.head scan.new saved.new ≡ after_tasks txg.now.txg (data_of heads.old.head scan.old saved.old) txg.now.tasks) }
-    ensures runs_on { OnOk result (RunsOn txg.now.txg heads.old.head scan.old heads.new.head scan.new) }
+    answers: &mut Vec<Option<Refusal>>,
+)
+    requires empty { answers.old.items ≡ [] }
+    requires room { vec_len answers.old + length txg.now.tasks ≤ vec_capacity answers.old }
+    ensures answers { answers.new.items ≡ task_answers txg.now.txg (data_of heads.old.head scan.old saved.old) txg.now.tasks }
+    ensures after { data_of heads.new.head scan.new saved.new ≡ after_tasks txg.now.txg (data_of heads.old.head scan.old saved.old) txg.now.tasks }
+    ensures runs_on { RunsOn txg.now.txg heads.old.head scan.old heads.new.head scan.new }
 {
     let number = txg.txg();
-    let mut answers = Vec::new(alloc);
     for (_, task) in txg.queued() {
         let refusal = run_task(alloc, number, task, heads, scan, saved);
-        answers.push(refusal)?;
+        answers.push_reserved(refusal);
     }
-    Ok(answers)
 }

@@ -1,4 +1,7 @@
 -- The history begins with the pool's making.
+use Rattle.std.proofs.Common.{sym, map}
+use Rattle.zs_scan.specs.View.{ScanView}
+use Rattle.zs_core.specs.Flight.{flying_of, in_flight}
 use Rattle.zs_core.specs.Shapes.{events_due}
 use Rattle.std.proofs.Common.{◌+◌, ◌≤◌, vec_len, vec_capacity, ◌≡◌, ◌∙◌, ap, refl, [], ◌*◌, arith}
 use Rattle.zs_script.specs.declared.command.Command.TheVariants.{Pool}
@@ -32,4 +35,5 @@ invariant_of-result c =
         told = rw (event_added _ _ [] _ c.note.ensures.items (c.in_ok-reserve.ensures.items ∙ c.new-history.ensures.items)) (tt, tt);
       },
       room c,
+      record { are = ap (λ (v : ScanView). map flying_of v.flight) c.in_ok-present.ensures.scan ∙ sym (ap in_flight (event_added _ _ [] _ c.note.ensures.items (c.in_ok-reserve.ensures.items ∙ c.new-history.ensures.items))) },
     )

@@ -2,6 +2,7 @@
 use Rattle.zs_core.specs.Shapes.{events_due}
 use Rattle.std.proofs.Common.{◌+◌, ◌≤◌, vec_len, vec_capacity, arith, refl}
 use Rattle.zs_core.proofs.Histories.{history_on, event_added, due_few}
+use Rattle.zs_core.proofs.Flying.{fly_still}
 use Rattle.zs_core.proofs.pool.Pool.line.Goals as goal
 
 room : (c : goal.After-note) → vec_len c.note.new.history + events_due c.self.inside.present.state.stage ≤ vec_capacity c.note.new.history
@@ -15,4 +16,9 @@ room c =
 
 pub invariant_of-self-2 : goal.invariant_of-self-2
 invariant_of-self-2 c =
-    (history_on c.self.inside.present.state c.self.inside.present.state c.self.inside.history.items c.note.new.history.items _ (event_added _ _ _ _ c.note.ensures.items c.in_ok-reserve.ensures.items) c.self.invariant.0 (rw (← c.self.view_is) at c.requires.step, refl) (rw (← c.self.view_is) at c.requires.told), room c)
+    let is = event_added _ _ _ _ c.note.ensures.items c.in_ok-reserve.ensures.items in
+    let asked = rw (← c.self.view_is) at c.requires in (
+      history_on c.self.inside.present.state c.self.inside.present.state c.self.inside.history.items c.note.new.history.items _ is (c.self.invariant).0 (asked.step, refl) (asked.told, asked.none),
+      room c,
+      fly_still c.self.inside.present.scan.flight c.self.inside.present.scan.flight c.self.inside.history.items c.note.new.history.items _ is (c.self.invariant).2 refl refl,
+    )

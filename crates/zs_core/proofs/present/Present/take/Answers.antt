@@ -2,13 +2,18 @@
 use Rattle.std.proofs.Common.{ap}
 use Rattle.zs_scan.specs.View.{ScanView}
 use Rattle.zs_scan.proofs.Takes.{room_keeps}
-use Rattle.zs_core.proofs.Scanned.{with_scan, taken_limit}
+use Rattle.zs_core.proofs.Scanned.{with_scan, taken_alike}
 use Rattle.zs_core.proofs.present.Present.take.Goals as goal
 
 pub invariant_of-self : goal.invariant_of-self
-invariant_of-self c = λ up.
-    with_scan c.self.inside c.take.new.self (c.self.invariant up) (ap (λ (v : ScanView). v.limit) c.in_err-batch.ensures.err) (λ start blocks was. rw c.in_err-batch.ensures.err (room_keeps _ _ _ _ _ _ was))
+invariant_of-self c =
+    let same = c.in_err-batch.ensures.err in
+    with_scan c.self.inside c.take.new.self c.self.invariant
+    (record { limit = ap (λ (v : ScanView). v.limit) same; width = ap (λ (v : ScanView). v.scope.width) same })
+    (λ start blocks was. rw same (room_keeps _ _ _ _ _ _ was))
 
 pub invariant_of-self-2 : goal.invariant_of-self-2
-invariant_of-self-2 c = λ up.
-    with_scan c.self.inside c.take.new.self (c.self.invariant up) (taken_limit c.self.inside.scan c.take.new.self c.in_ok-batch.batch c.in_ok-batch.ensures.taken c.in_ok-batch.ensures.none) (λ start blocks was. c.in_ok-batch.ensures.keeps _ _ _ _ was)
+invariant_of-self-2 c =
+    with_scan c.self.inside c.take.new.self c.self.invariant
+    (taken_alike c.self.inside.scan c.take.new.self c.in_ok-batch.batch c.in_ok-batch.ensures.taken c.in_ok-batch.ensures.none)
+    (λ start blocks was. c.in_ok-batch.ensures.keeps _ _ _ _ was)

@@ -11,11 +11,13 @@ pub returns-then-not-is_verdict-clause-judged : goal.returns-then-not-is_verdict
 returns-then-not-is_verdict-clause-judged c = (λ is. true≢false (sym (c.if-not-is_verdict.ensures.1 (rw (← c.self.view_is) at is))), refl)
 
 pub invariant_of-self : goal.invariant_of-self
-invariant_of-self c = λ up.
-    with_scan c.self.inside c.verdict.new.self (c.self.invariant up) (ap (λ (v : ScanView). v.limit) (c.verdict.ensures.judged).rest) (λ start blocks was. c.verdict.ensures.keeps _ _ _ _ was)
+invariant_of-self c =
+    let same = (c.verdict.ensures.judged).rest in
+    with_scan c.self.inside c.verdict.new.self c.self.invariant
+    (record { limit = ap (λ (v : ScanView). v.limit) same; width = ap (λ (v : ScanView). v.scope.width) same })
+    (λ start blocks was. c.verdict.ensures.keeps _ _ _ _ was)
 
 pub returns-clause-step : goal.returns-clause-step
 returns-clause-step c =
-    let up = ap (λ v. v.state.suspended) c.self.view_is ∙ c.requires.up in
-    let f : Facts c.self.inside = c.self.invariant up in
+    let f : Facts c.self.inside = c.self.invariant in
     rw (← c.self.view_is) (judged_step (view_of c.self.inside).state c.self.inside.scan c.verdict.new.self c.self.inside.saved c.args.number c.args.entries.now c.in_ok-made.made.items refl c.facts.ensures c.verdict.ensures.judged c.in_ok-made.ensures (rw c.in_ok-made.ensures (c.verdict.ensures.made_of _ (f.scan).live)))
