@@ -8,13 +8,17 @@ use Rattle.zscan.specs.Mirror.{SomeRose}
 use Rattle.zscan.specs.Images.{AreFresh, HasFailed}
 
 -- as many were left as were lent
-same_count : {D : Type 0} (f : D → ℕ) (new mid : List D) → map f new ≡ map f mid → length new ≡ length mid
+pub same_count : {D A : Type 0} (f : D → A) (new mid : List D) → map f new ≡ map f mid → length new ≡ length mid
 same_count f new mid h = let e = ap length h in simp length-map at e
 
 -- what was left is what the list then has
 pub written_back : {D : Type 0} (xs mid new : List D) (n : ℕ) → mid ≡ xs → length mid ≡ n → length new ≡ length mid → take n (new ++ drop (length new) xs) ≡ new
 written_back xs mid new n same len count =
     subst (λ (k : ℕ). take k (new ++ drop (length new) xs) ≡ new) (count ∙ len) (take-append_seam new (drop (length new) xs))
+
+-- what stayed of each while they were lent is as it was
+pub kept_back : {D A : Type 0} (f : D → A) (xs mid new : List D) (n : ℕ) → mid ≡ xs → length mid ≡ n → map f new ≡ map f mid → map f (take n (new ++ drop (length new) xs)) ≡ map f xs
+kept_back f xs mid new n same len kept = ap (map f) (written_back xs mid new n same len (same_count f new mid kept)) ∙ (kept ∙ ap (map f) same)
 
 -- where the counts stayed they are fresh still
 pub fresh_back : {D : Type 0} (f : D → ℕ) (xs mid new : List D) (n : ℕ) → mid ≡ xs → length mid ≡ n → map f new ≡ map f mid → AreFresh (map f xs) → AreFresh (map f (take n (new ++ drop (length new) xs)))

@@ -7,13 +7,25 @@ use Rattle.zs_script.specs.declared.command.Line.{Line}
 use Rattle.zs_core.specs.declared.event.Event.{Event}
 use Rattle.zs_core.specs.Commands.{command_in, commands_of}
 use Rattle.zscan.specs.Session.{GoesOn, GoesPart, AreFirst, commands_in}
-use Rattle.zscan.proofs.Histories.{twice}
+use Rattle.zs_core.specs.View.{PoolView}
+use Rattle.zscan.specs.Plays.{Contents, Went}
+use Rattle.zscan.proofs.Histories.{twice, went_twice}
+
+-- the commands of one line more
+taken : (lines : List Line) (i : ℕ) (d : Line) → i < length lines → commands_in (take (i + 1) lines) ≡ commands_in (take i lines) ++ (get_or lines i d).command ∷ []
+taken lines i d below = ap commands_in (take_more lines i d below) ∙ map-append (λ (line : Line). line.command) (take i lines) (get_or lines i d ∷ [])
 
 -- the first lines were run, and then the next
-pub next_line : (old mid new : List Event) (lines : List Line) (i : ℕ) (d : Line) → i < length lines → GoesOn old mid (commands_in (take i lines)) → GoesOn mid new ((get_or lines i d).command ∷ []) → GoesOn old new (commands_in (take (i + 1) lines))
+next_line : (old mid new : List Event) (lines : List Line) (i : ℕ) (d : Line) → i < length lines → GoesOn old mid (commands_in (take i lines)) → GoesOn mid new ((get_or lines i d).command ∷ []) → GoesOn old new (commands_in (take (i + 1) lines))
 next_line old mid new lines i d below first second =
-    subst (λ (cs : List Command). GoesOn old new cs) (sym (ap commands_in (take_more lines i d below) ∙ map-append (λ (line : Line). line.command) (take i lines) (get_or lines i d ∷ [])))
+    subst (λ (cs : List Command). GoesOn old new cs) (sym (taken lines i d below))
     (twice old mid new (commands_in (take i lines)) ((get_or lines i d).command ∷ []) first second)
+
+-- and so did the devices
+pub went_next : (old mid new : PoolView) (before between after : Contents) (lines : List Line) (i : ℕ) (d : Line) → i < length lines → Went old mid before between (commands_in (take i lines)) → Went mid new between after ((get_or lines i d).command ∷ []) → Went old new before after (commands_in (take (i + 1) lines))
+went_next old mid new before between after lines i d below first second =
+    subst (λ (cs : List Command). Went old new before after cs) (sym (taken lines i d below))
+    (went_twice old mid new before between after (commands_in (take i lines)) ((get_or lines i d).command ∷ []) first second)
 
 -- the first lines were run, which is a part of all
 first_lines : (old new : List Event) (lines : List Line) (i : ℕ) → GoesOn old new (commands_in (take i lines)) → GoesPart old new (commands_in lines)

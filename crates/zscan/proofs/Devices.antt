@@ -1,6 +1,6 @@
 -- A call on one device of a list, seen in what all of them tell.
-use Rattle.std.proofs.Common.{arith, ◌≡◌, ℕ, ◌+◌, ◌<◌, List, ◌++◌, take, drop, length, map, set, get_or, sym, ◌∙◌, subst, Ok, Err}
-use Rattle.std.specs.Prelude.{IsErrOf}
+use Rattle.std.proofs.Common.{arith, ◌≡◌, ℕ, ◌+◌, ◌<◌, List, ◌++◌, take, drop, length, map, set, get_or, sym, ◌∙◌, ap, subst, Ok, Err}
+use Rattle.std.specs.Prelude.{Result, OnOk, IsErrOf}
 use Rattle.std.proofs.lemmas.List.{get_or-set_same, map-set, get_or-map, length-map, get_or_default, length-drop, length-take}
 use Rattle.std.proofs.lemmas.List.Edits.{map_over_more}
 use Rattle.std.proofs.Math.Seq.{map-set_same}
@@ -31,6 +31,17 @@ refused f xs i y d e lt cause =
       failed = λ h. rose f xs i y d lt (cause.failed (same h));
       memory = λ h. map-set_same f xs i y d (cause.memory (same h));
     }
+
+-- whether it was done or refused
+pub counted : {D T : Type 0} (f : D → ℕ) (xs : List D) (i : ℕ) (y d : D) (r : Result T BayFault) → i < length xs → HasCause {T = T} (f (get_or xs i d)) (f y) r → HaveCause {T = T} (map f xs) (map f (set xs i y)) r
+counted f xs i y d (Ok x) lt cause = done f xs i y d x x cause
+counted f xs i y d (Err e) lt cause = refused f xs i y d e lt cause
+
+-- the device was changed, where the call was done
+pub changed : {D B T : Type 0} (f : D → B) (change : B → B) (xs : List D) (i : ℕ) (y d : D) (b : B) (r : Result T BayFault) → i < length xs → OnOk r (f y ≡ change (f (get_or xs i d)))
+    → OnOk r (map f (set xs i y) ≡ set (map f xs) i (change (get_or (map f xs) i b)))
+changed f change xs i y d b (Ok x) lt is = map-set f xs i y ∙ ap (set (map f xs) i) (is ∙ ap change (sym (get_or-map f xs i d b lt)))
+changed f change xs i y d b (Err e) lt is = tt
 
 -- a refused call after calls that left the counts
 pub later : {T U : Type 0} (start before now : List ℕ) (e : BayFault) → before ≡ start → HaveCause {T = T} before now (Err e) → HaveCause {T = U} start now (Err e)

@@ -21,7 +21,7 @@ of_mirror v e safe here =
     let block = safe.scanned.live.waiting e here in
     let lies = safe.scanned.covered.valid.within.places block.holder block.is_dataset block.at block.is_entry e.1.piece block.is_piece in
     let named : e.1.piece ≡ e.0 = safe.orderly.named e here in
-    let low : e.1.piece.place.vdev < 1 = subst (λ (n : ℕ). e.1.piece.place.vdev < n) safe.one_mirror lies.mirror in
+    let low : e.1.piece.place.vdev < 1 = lies.mirror in
     let vdev : e.0.place.vdev ≡ 0 = sym (ap (λ (p : Piece). p.place.vdev) named) ∙ omega (arith, low) in
     eq-eqb e.0.place.vdev 0 vdev
 

@@ -1,67 +1,65 @@
 -- The verdict of a batch in flight.
-use Rattle.std.proofs.Common.{◌≡◌, ℕ, ◌==◌, ◌<◌, ◌+◌, Bool, true, false, cond, not, List, [], ◌∷◌, ◌++◌, length, filter, take, get_or, map, refl, sym, ◌∙◌, ap, subst, inl, inr, arith, eq-eqb}
-use Rattle.std.proofs.lemmas.List.{take_more}
+use Rattle.std.proofs.Common.{◌≡◌, ℕ, ◌==◌, ◌<◌, ◌+◌, Bool, true, false, cond, not, List, [], ◌∷◌, length, filter, map, refl, sym, ◌∙◌, ap, subst, inl, inr, arith, eq-eqb}
 use Rattle.std.specs.Prelude.{Option, Some, None}
-use Rattle.zs_ids.specs.declared.block.Item.{Item}
+use Rattle.zs_ids.specs.declared.block.Piece.{Piece}
 use Rattle.zs_ids.specs.Graph.{Has}
 use Rattle.zs_ledger.specs.declared.entry.Entry.{Entry}
-use Rattle.zs_queue.specs.Lists.{passing-cons}
+use Rattle.zs_queue.specs.Lists.{passing-cons, has-filter}
 use Rattle.zs_scan.specs.declared.batch.Batch.{Batch}
 use Rattle.zs_scan.specs.Flight.{first_of}
-use Rattle.zs_scan.specs.View.{ScanView}
+use Rattle.zs_scan.specs.View.{ScanView, pieces_in, flies_in, mark_of}
 use Rattle.zs_scan.specs.Steps.{AreOf, Taken, Judged, still_flying}
 use Rattle.zs_scan.proofs.AllFly.{all_fly, of_pieces}
 use Rattle.zs_scan.proofs.Batches.{has-last}
 use Rattle.zs_core.specs.declared.pool.Verdicts.{Verdicts}
-use Rattle.zs_core.specs.Judging.{HasVerdict, IsJudged, entries_in, pieces_in}
+use Rattle.zs_core.specs.Judging.{HasVerdict, IsJudged, entries_in, pieces_in as told_in}
 use Rattle.zs_core.specs.View.{PoolView, AddsEvent}
 use Rattle.zs_core.specs.declared.event.Step.TheVariants as step
 use Rattle.zs_script.specs.declared.reply.Reply.TheVariants as reply
-use Rattle.zscan.specs.Mirror.{IsEntryOf}
-use Rattle.zscan.specs.Batches.{HadVerdict, JudgedWhole, JudgesWhole}
-
--- entries of items, and one more of each
-are_push : (items : List Item) (entries : List Entry) (i : Item) (e : Entry) → AreOf items entries → IsEntryOf i e → AreOf (items ++ i ∷ []) (entries ++ e ∷ [])
-are_push [] [] i e are is = (is.piece, is.sectors, is.sum, tt)
-are_push [] (x ∷ es) i e are is = absurd are
-are_push (x ∷ xs) [] i e are is = absurd are
-are_push (x ∷ xs) (y ∷ ys) i e are is = (are.0, are.1, are.2, are_push xs ys i e are.3 is)
-
--- the entries of the first items, and that of the next
-pub are_more : (items : List Item) (k : ℕ) (d : Item) (entries new : List Entry) (e : Entry) → k < length items → AreOf (take k items) entries → IsEntryOf (get_or items k d) e → new ≡ entries ++ e ∷ [] → AreOf (take (k + 1) items) new
-are_more items k d entries new e below are is same =
-    subst (λ (es : List Entry). AreOf (take (k + 1) items) es) (sym same)
-    (subst (λ (is : List Item). AreOf is (entries ++ e ∷ [])) (sym (take_more items k d below)) (are_push (take k items) entries (get_or items k d) e are is))
+use Rattle.zscan.specs.Plays.{Contents, AreChecks, Went}
+use Rattle.zscan.specs.Batches.{HadVerdict}
+use Rattle.zscan.proofs.Checks.{are_of}
+use Rattle.zscan.proofs.Histories.{went_one}
 
 -- a batch that is in flight, with entries of its items, has its verdict
-pub had : (by many : ℕ) (old new : PoolView) (b : Batch) (v : Verdicts) → HasVerdict by old v many new → Has old.core.scan.flight b → v.number ≡ b.number → AreOf b.items v.entries → HadVerdict by old b.number many new
+pub had : (by many : ℕ) (old new : PoolView) (b : Batch) (v : Verdicts) → HasVerdict by old v many new → Has old.core.scan.flight b → v.number ≡ b.number → AreOf b.items v.entries → HadVerdict by old b many new
 had by many old new b v verdict here same are = go verdict.made verdict.judged verdict.counted verdict.event
   where
-    go : (made : Option (List Entry)) → IsJudged old.core.scan v.number v.entries made new.core.scan → many ≡ length (entries_in made) → AddsEvent by (step.Verdict v.number (pieces_in made v.entries) (entries_in made)) reply.Nothing old.history new.history → HadVerdict by old b.number many new
+    go : (made : Option (List Entry)) → IsJudged old.core.scan v.number v.entries made new.core.scan → many ≡ length (entries_in made) → AddsEvent by (step.Verdict v.number (told_in made v.entries) (entries_in made)) reply.Nothing old.history new.history → HadVerdict by old b many new
     go None judged counted event = absurd (judged.0 (record { batch = b; here = here; named = sym same; of_items = are }))
     go (Some made) judged counted event = record {
       entries = v.entries;
-      pieces = map (λ e. e.piece) v.entries;
+      of_items = are;
       made = made;
+      which = judged.1 ∙ ap (λ (n : ℕ). still_flying old.core.scan.marks n v.entries) same;
       judged = subst (λ (n : ℕ). Judged old.core.scan n v.entries new.core.scan) same judged.2;
       counted = counted;
-      event = subst (λ (n : ℕ). AddsEvent by (step.Verdict n (map (λ e. e.piece) v.entries) made) reply.Nothing old.history new.history) same event;
+      event = subst (λ (ps : List Piece). AddsEvent by (step.Verdict b.number ps made) reply.Nothing old.history new.history) (of_pieces b.items v.entries are)
+          (subst (λ (n : ℕ). AddsEvent by (step.Verdict n (map (λ e. e.piece) v.entries) made) reply.Nothing old.history new.history) same event);
     }
 
--- a batch that was just taken, with entries of its items, has its verdict with an entry for each piece
-pub had_whole : (by many : ℕ) (old new : PoolView) (b : Batch) (v : Verdicts) → HasVerdict by old v many new → Has old.core.scan.flight b → v.number ≡ b.number → AreOf b.items v.entries → JudgesWhole by old b new
-had_whole by many old new b v verdict here same are = λ before taken. go taken verdict.made verdict.judged verdict.event
+-- a batch that was just taken has an entry for each piece then
+pub whole_of : (by many : ℕ) (before : ScanView) (old new : PoolView) (b : Batch) (verdict : HadVerdict by old b many new) → Taken before b old.core.scan → map (λ e. e.piece) verdict.made ≡ pieces_in b.items
+whole_of by many before old new b verdict taken =
+    ap (λ (es : List Entry). map (λ e. e.piece) es) (verdict.which ∙ all_fly before old.core.scan b verdict.entries taken verdict.of_items) ∙ of_pieces b.items verdict.entries verdict.of_items
+
+-- the entries that were made are those of checks of the batch's pieces
+pub went_judged : (by many n : ℕ) (old new : PoolView) (b : Batch) (v : Verdicts) (before after : Contents) → HasVerdict by old v many new → Has old.core.scan.flight b → v.number ≡ b.number
+    → AreChecks n b.items before v.entries after → n ≡ old.core.shape.width → new.core.shape ≡ old.core.shape → Went old new before after []
+went_judged by many n old new b v before after verdict here same checks width shape = go verdict.made verdict.judged verdict.event
   where
-    go : {before : ScanView} → Taken before b old.core.scan → (made : Option (List Entry)) → IsJudged old.core.scan v.number v.entries made new.core.scan → AddsEvent by (step.Verdict v.number (pieces_in made v.entries) (entries_in made)) reply.Nothing old.history new.history → JudgedWhole by old b new
-    go taken None judged event = absurd (judged.0 (record { batch = b; here = here; named = sym same; of_items = are }))
-    go {before} taken (Some made) judged event =
-        let all : made ≡ v.entries = judged.1 ∙ (ap (λ (n : ℕ). still_flying old.core.scan.marks n v.entries) same ∙ all_fly before old.core.scan b v.entries taken are) in
-        record {
-          pieces = map (λ e. e.piece) v.entries;
-          made = made;
-          whole = ap (λ (es : List Entry). map (λ e. e.piece) es) all ∙ of_pieces b.items v.entries are;
-          event = subst (λ (n : ℕ). AddsEvent by (step.Verdict n (map (λ e. e.piece) v.entries) made) reply.Nothing old.history new.history) same event;
-        }
+    are : AreOf b.items v.entries
+    are = are_of n b.items v.entries before after checks
+
+    go : (made : Option (List Entry)) → IsJudged old.core.scan v.number v.entries made new.core.scan → AddsEvent by (step.Verdict v.number (told_in made v.entries) (entries_in made)) reply.Nothing old.history new.history → Went old new before after []
+    go None judged event = absurd (judged.0 (record { batch = b; here = here; named = sym same; of_items = are }))
+    go (Some made) judged event = went_one by (step.Verdict v.number (map (λ e. e.piece) v.entries) made) reply.Nothing old new before after event shape (record {
+      items = b.items;
+      found = v.entries;
+      of_pieces = of_pieces b.items v.entries are;
+      checks = subst (λ (w : ℕ). AreChecks w b.items before v.entries after) width checks;
+      among = λ e has. (has-filter (λ (x : Entry). flies_in v.number (mark_of old.core.scan.marks x.piece)) v.entries e (subst (λ (es : List Entry). Has es e) judged.1 has)).0;
+    })
 
 module _ {A : Type 0} where
   -- at most as many pass as there are
@@ -106,9 +104,9 @@ pub flies : (old new : ScanView) (b : Batch) → Taken old b new → Has new.fli
 flies old new b taken = subst (λ (v : ScanView). Has v.flight b) (sym taken.rest) (has-last old.flight b)
 
 -- what waits stays at a verdict
-pub waiting_stays : (by number many : ℕ) (old new : PoolView) → HadVerdict by old number many new → new.core.scan.waiting ≡ old.core.scan.waiting
-waiting_stays by number many old new verdict = ap (λ (v : ScanView). v.waiting) verdict.judged.rest
+pub waiting_stays : (by many : ℕ) (old new : PoolView) (b : Batch) → HadVerdict by old b many new → new.core.scan.waiting ≡ old.core.scan.waiting
+waiting_stays by many old new b verdict = ap (λ (v : ScanView). v.waiting) verdict.judged.rest
 
 -- fewer batches are in flight after the verdict of the first
-pub fewer_land : (by many : ℕ) (old new : PoolView) (b : Batch) → HadVerdict by old b.number many new → Some b ≡ first_of old.core.scan.flight → length new.core.scan.flight < length old.core.scan.flight
+pub fewer_land : (by many : ℕ) (old new : PoolView) (b : Batch) → HadVerdict by old b many new → Some b ≡ first_of old.core.scan.flight → length new.core.scan.flight < length old.core.scan.flight
 fewer_land by many old new b verdict is = fewer_fly old.core.scan new.core.scan b.number verdict.entries b (first_flies old.core.scan.flight b is) refl verdict.judged

@@ -2,6 +2,9 @@ pub mod Devices
 pub mod Texts
 pub mod Histories
 pub mod LineSteps
+pub mod Phases
+pub mod Written
+pub mod Made
 pub mod Commands
 pub mod Judged
 pub mod Draining
@@ -9,4 +12,13 @@ pub mod Walking
 pub mod Refusals
 pub mod Scripts
 pub mod Backs
+pub mod Fetching
+pub mod Endings
 pub mod Blocks
+pub mod Members
+pub mod Checks
+pub mod Rooms
+pub mod Taking
+pub mod Landed
+pub mod Outcomes
+pub mod OpenReads

@@ -15,9 +15,10 @@ use Rattle.zs_core.specs.declared.event.Event.{Event}
 use Rattle.zs_core.specs.declared.event.Stage.TheVariants.{Between}
 use Rattle.zs_core.specs.declared.event.Step.{Step}
 use Rattle.zs_core.specs.declared.event.Step.TheVariants as step
-use Rattle.zs_core.specs.Told.{is_of_line, with_step, line_steps, turns_made, made_by, shown_by, issued_of, landed_of, AreTurns, TellsHold, TellsIssue, TellsLand}
+use Rattle.zs_core.specs.Told.{is_of_line, is_of_sync, put_behind, with_step, line_steps, turns_made, made_by, shown_by, issued_of, landed_of, AreTurns, TellsHold, TellsIssue, TellsLand, AreVerdictsFrom}
 use Rattle.zs_core.specs.View.{PoolView, AddsEvent}
 use Rattle.zscan.specs.Session.{IsReady}
+use Rattle.zscan.specs.Verdicts.{next_number}
 
 -- an event that was added
 abbrev added : ℕ → Step → Reply → Event
@@ -27,19 +28,33 @@ added by s answer = record { by = by; step = s; reply = answer }
 pub steps_push : (es : List Event) (e : Event) → line_steps (es ++ e ∷ []) ≡ with_step (line_steps es) e
 steps_push es e = fold-append with_step [] es (e ∷ [])
 
--- an event that is of no line closes the line
-pub closes : (by : ℕ) (s : Step) (answer : Reply) (old new : List Event) → AddsEvent by s answer old new → is_of_line s ≡ false → line_steps new ≡ []
-closes by s answer old new is closing =
-    ap line_steps is ∙ (steps_push old (added by s answer) ∙ ap (λ b. cond b (line_steps old ++ s ∷ []) []) closing)
+-- the steps of a line after one event more
+pub steps_after : (by : ℕ) (s : Step) (answer : Reply) (old new : List Event) → AddsEvent by s answer old new → line_steps new ≡ with_step (line_steps old) (added by s answer)
+steps_after by s answer old new is = ap line_steps is ∙ steps_push old (added by s answer)
+
+-- an event that is of no line and of no sync closes the line
+pub closes : (by : ℕ) (s : Step) (answer : Reply) (old new : List Event) → AddsEvent by s answer old new → is_of_line s ≡ false → is_of_sync s ≡ false → line_steps new ≡ []
+closes by s answer old new is closing other =
+    steps_after by s answer old new is
+    ∙ (ap (λ b. cond b (line_steps old ++ s ∷ []) (cond (is_of_sync s) (put_behind (line_steps old) s) [])) closing
+    ∙ ap (λ b. cond b (put_behind (line_steps old) s) []) other)
 
 -- another is one more of its steps
 pub continues : (by : ℕ) (s : Step) (answer : Reply) (old new : List Event) → AddsEvent by s answer old new → is_of_line s ≡ true → line_steps new ≡ line_steps old ++ s ∷ []
 continues by s answer old new is going =
-    ap line_steps is ∙ (steps_push old (added by s answer) ∙ ap (λ b. cond b (line_steps old ++ s ∷ []) []) going)
+    steps_after by s answer old new is
+    ∙ ap (λ b. cond b (line_steps old ++ s ∷ []) (cond (is_of_sync s) (put_behind (line_steps old) s) [])) going
 
--- a pool is ready after an event that is of no line
-pub ready_after : (p : PoolView) (by : ℕ) (s : Step) (answer : Reply) (old : List Event) → AddsEvent by s answer old p.history → is_of_line s ≡ false → p.core.state.stage ≡ Between → p.core.state.suspended ≡ false → IsReady p
-ready_after p by s answer old is closing between up = record { between = between; up = up; fresh = closes by s answer old p.history is closing }
+-- the end of a sync's data and its commit stand behind the others
+pub goes_behind : (by : ℕ) (s : Step) (answer : Reply) (old new : List Event) → AddsEvent by s answer old new → is_of_line s ≡ false → is_of_sync s ≡ true → line_steps new ≡ put_behind (line_steps old) s
+goes_behind by s answer old new is apart behind =
+    steps_after by s answer old new is
+    ∙ (ap (λ b. cond b (line_steps old ++ s ∷ []) (cond (is_of_sync s) (put_behind (line_steps old) s) [])) apart
+    ∙ ap (λ b. cond b (put_behind (line_steps old) s) []) behind)
+
+-- a pool is ready after an event that is of no line and of no sync
+pub ready_after : (p : PoolView) (by : ℕ) (s : Step) (answer : Reply) (old : List Event) → AddsEvent by s answer old p.history → is_of_line s ≡ false → is_of_sync s ≡ false → p.core.state.stage ≡ Between → p.core.state.suspended ≡ false → p.core.state.reads ≡ [] → IsReady p
+ready_after p by s answer old is closing other between up unread = record { between = between; up = up; unread = unread; fresh = closes by s answer old p.history is closing other }
 
 -- turns, and one more
 turns_push : (ss : List Step) (n : ℕ) (turn : Turn) → AreTurns ss n → AreTurns (ss ++ step.Walk turn ∷ []) (fold (λ k x. k + turns_made x) 0 (ss ++ step.Walk turn ∷ []))
@@ -89,20 +104,36 @@ was_issued by number vdev online n m pieces checked entries shown answer reply o
     let both : line_steps new ≡ step.Hold number vdev online pieces ∷ step.Verdict m checked entries ∷ [] = continues by (step.Verdict m checked entries) reply mid new judged refl ∙ ap (λ ss. ss ++ step.Verdict m checked entries ∷ []) first in
     subst (λ (ss : List Step). TellsIssue ss vdev n shown) (sym both) (refl, few, same, all, is)
 
--- verdicts, and one more
-land_push : (ss : List Step) (made : ℕ) (shown : List LandedPiece) (number : ℕ) (pieces : List Piece) (entries : List Entry) → TellsLand ss made shown → TellsLand (ss ++ step.Verdict number pieces entries ∷ []) (fold (λ k x. k + made_by x) 0 (ss ++ step.Verdict number pieces entries ∷ [])) (flat_map shown_by (ss ++ step.Verdict number pieces entries ∷ []))
-land_push [] made shown number pieces entries told = ((tt, tt), refl, refl)
-land_push (s ∷ ss) made shown number pieces entries told =
-    let rest = land_push ss (fold (λ k x. k + made_by x) 0 ss) (flat_map shown_by ss) number pieces entries (told.0.1, refl, refl) in
-    ((told.0.0, rest.0), refl, refl)
+-- verdicts, and one more of a later batch
+later_push : (ss : List Step) (least number : ℕ) (p : Piece) (ps : List Piece) (entries : List Entry) → AreVerdictsFrom least ss → next_number least ss ≤ number → AreVerdictsFrom least (ss ++ step.Verdict number (p ∷ ps) entries ∷ [])
+later_push [] least number p ps entries are later = (later, tt)
+later_push (step.Verdict m (q ∷ qs) es ∷ ss) least number p ps entries are later = (are.0, later_push ss (m + 1) number p ps entries are.1 later)
+later_push (step.Verdict m [] es ∷ ss) least number p ps entries are later = absurd are
+later_push (s ∷ ss) least number p ps entries are later = absurd are
+
+-- the next number is then one more than that batch's
+next_push : (ss : List Step) (least number : ℕ) (pieces : List Piece) (entries : List Entry) → next_number least (ss ++ step.Verdict number pieces entries ∷ []) ≡ number + 1
+next_push [] least number pieces entries = refl
+next_push (step.Verdict m checked es ∷ ss) least number pieces entries = next_push ss (m + 1) number pieces entries
+next_push (s ∷ ss) least number pieces entries = next_push ss least number pieces entries
+
+-- the same of a history
+pub next_landed : (by number : ℕ) (pieces : List Piece) (entries : List Entry) (answer : Reply) (old new : List Event) → AddsEvent by (step.Verdict number pieces entries) answer old new → next_number 0 (line_steps new) ≡ number + 1
+next_landed by number pieces entries answer old new is =
+    ap (next_number 0) (continues by (step.Verdict number pieces entries) answer old new is refl) ∙ next_push (line_steps old) 0 number pieces entries
+
+-- a batch with pieces may come behind verdicts of earlier ones
+land_push : (ss : List Step) (number : ℕ) (pieces : List Piece) (entries : List Entry) → AreVerdictsFrom 0 ss → next_number 0 ss ≤ number → 1 ≤ length pieces → AreVerdictsFrom 0 (ss ++ step.Verdict number pieces entries ∷ [])
+land_push ss number [] entries are later some = absurd (omega (arith, some))
+land_push ss number (p ∷ ps) entries are later some = later_push ss 0 number p ps entries are later
 
 -- what was landed, and one batch more
-pub was_landed : (by number many : ℕ) (pieces : List Piece) (entries : List Entry) (answer : Reply) (old new : List Event) (made : ℕ) (shown more : List LandedPiece) → AddsEvent by (step.Verdict number pieces entries) answer old new → many ≡ length entries → more ≡ shown ++ map (landed_of entries) pieces → TellsLand (line_steps old) made shown → TellsLand (line_steps new) (made + many) more
-was_landed by number many pieces entries answer old new made shown more is count same told =
+pub was_landed : (by number many : ℕ) (pieces : List Piece) (entries : List Entry) (answer : Reply) (old new : List Event) (made : ℕ) (shown more : List LandedPiece) → AddsEvent by (step.Verdict number pieces entries) answer old new → next_number 0 (line_steps old) ≤ number → 1 ≤ length pieces → many ≡ length entries → more ≡ shown ++ map (landed_of entries) pieces → TellsLand (line_steps old) made shown → TellsLand (line_steps new) (made + many) more
+was_landed by number many pieces entries answer old new made shown more is later some count same told =
     let ss = line_steps old in
     let v = step.Verdict number pieces entries in
     subst (λ (l : List Step). TellsLand l (made + many) more) (sym (continues by v answer old new is refl)) (
-      (land_push ss made shown number pieces entries told).0,
+      land_push ss number pieces entries told.0 later some,
       ap (λ m. m + many) told.1 ∙ (ap (λ m. fold (λ k x. k + made_by x) 0 ss + m) count ∙ sym (fold-append (λ k x. k + made_by x) 0 ss (v ∷ []))),
       same ∙ (ap (λ l. l ++ map (landed_of entries) pieces) told.2 ∙ (ap (λ l. flat_map shown_by ss ++ l) (sym (append-nil (map (landed_of entries) pieces))) ∙ sym (flat_map-append shown_by ss (v ∷ [])))),
     )

@@ -94,7 +94,8 @@ at_end s (none_left nowhere empty) walks = (nowhere, empty)
 -- a walk that was refused as full at once has pieces that wait
 pub full_walk : (start now : CoreView) → IsSafe start → (now ≡ start) ⊎ (turns_left now.state.graph now.scan.run < turns_left start.state.graph start.scan.run) → IsFull now.state.graph now.scan → turns_left now.state.graph now.scan.run < turns_left start.state.graph start.scan.run + min 1 (length start.scan.waiting)
 full_walk start now safe (inl same) full =
-    let some : 1 ≤ length start.scan.waiting = subst (λ (n : ℕ). 1 ≤ n) (sym (ap (λ (v : CoreView). length v.scan.waiting) (sym same) ∙ (full.none_left ∙ ap (λ (v : CoreView). v.scan.limit) same))) safe.some_may in
+    let many : length start.scan.waiting ≡ start.shape.limit = ap (λ (v : CoreView). length v.scan.waiting) (sym same) ∙ (full.none_left ∙ (ap (λ (v : CoreView). v.scan.limit) same ∙ safe.limit)) in
+    let some : 1 ≤ length start.scan.waiting = subst (λ (n : ℕ). 1 ≤ n) (sym many) safe.shaped.shape.limit.0 in
     let left : turns_left now.state.graph now.scan.run ≡ turns_left start.state.graph start.scan.run = ap (λ (v : CoreView). turns_left v.state.graph v.scan.run) same in
     omega (arith, some, left)
 full_walk start now safe (inr fewer) full = omega (arith, fewer)

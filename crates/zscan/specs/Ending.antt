@@ -1,6 +1,7 @@
 -- How a session ends.
-use Rattle.std.specs.Prelude.{◌≡◌, ◌⊎◌, ℕ, List, [], Option, Some, None}
+use Rattle.std.specs.Prelude.{◌≡◌, ◌⊎◌, ℕ, List, [], Option, Some, None, map}
 use Rattle.zs_core.specs.declared.event.Event.{Event}
+use Rattle.zscan.specs.declared.session.Ended.{Ended}
 use Rattle.zscan.specs.declared.session.Session.{Session}
 
 -- a status with which a session ends
@@ -16,3 +17,8 @@ history_in (Some s) = s.pool.history
 abbrev pub devices_in : {D : Type 0} → Option (Session D) → List D → List D
 devices_in None fetched = fetched
 devices_in (Some s) fetched = s.devices.items
+
+-- the devices with which a session ends are those with which it began: as many, of their sizes, and telling the same where no pool was made
+pub record KeepsImages {D : Type 0} (size : D → ℕ) (told : D → Option (List ℕ)) (began : List D) (e : Ended D) : Type 0 where
+  pub sizes : map size (devices_in e.session e.devices.items) ≡ map size began
+  pub contents : e.session ≡ None → map told e.devices.items ≡ map told began

@@ -1,5 +1,5 @@
 -- The images of a pool: which can be made a new one, seen as the list of their sizes and the list of what each tells.
-use Rattle.std.specs.Prelude.{◌≡◌, ◌≢◌, ◌==◌, ℕ, ◌+◌, ◌*◌, ◌/◌, ◌<◌, ◌≤◌, min, Bool, true, false, List, Option, length, slice_index, slice_range}
+use Rattle.std.specs.Prelude.{◌≡◌, ◌≢◌, ◌==◌, ℕ, ◌+◌, ◌*◌, ◌/◌, ◌++◌, ◌<◌, ◌≤◌, min, Bool, true, false, List, Option, option_map, length, take, slice_index, slice_range}
 use Rattle.std.specs.List.{list_all}
 use Rattle.zs_io.specs.Told.{Told}
 use Rattle.zs_script.specs.declared.refusal.Refusal.{Refusal}
@@ -60,3 +60,12 @@ AreFresh counts = (k : ℕ) → slice_index counts k ≡ 0
 -- a call has failed on some device
 abbrev pub HasFailed : List ℕ → Type 0
 HasFailed counts = (k : ℕ) × (0 < slice_index counts k)
+
+-- a bay was asked for these names, in order, and for no other
+abbrev pub AsksAll : List (List ℕ) → Option (List (List ℕ)) → Option (List (List ℕ)) → Type 0
+AsksAll names before now = now ≡ option_map (λ asked. asked ++ names) before
+
+-- a bay was asked for the first of these names, in order, and for no other
+pub record AsksFirst (names : List (List ℕ)) (before now : Option (List (List ℕ))) : Type 0 where
+  pub many : ℕ
+  pub asked : AsksAll (take many names) before now

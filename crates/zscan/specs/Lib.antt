@@ -1,7 +1,12 @@
 pub mod Mirror
 pub mod Images
+pub mod Plays
 pub mod Session
 pub mod Batches
+pub mod OpenReads
 pub mod Puts
 pub mod Ending
 pub mod Step
+pub mod Runs
+pub mod Verdicts
+pub mod Finish

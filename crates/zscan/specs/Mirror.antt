@@ -1,9 +1,10 @@
 -- The copies of a block on the devices of its mirror, seen as the list of what each device tells.
-use Rattle.std.specs.Prelude.{◌≡◌, ◌==◌, ℕ, ◌+◌, ◌*◌, ◌<◌, ◌≤◌, Bool, true, false, List, [], ◌∷◌, Option, None, option_map, slice_index_or, slice_range, Result, OnOk, IsErrOf}
+use Rattle.std.specs.Prelude.{◌≡◌, ◌==◌, ℕ, ◌+◌, ◌*◌, ◌<◌, ◌≤◌, Bool, true, false, List, [], ◌∷◌, length, Option, None, option_map, slice_index_or, slice_set, slice_range, Result, OnOk, IsErrOf}
 use Rattle.std.specs.Cmp.Lexicographic.{pointwise}
 use Rattle.std.specs.List.{list_any}
 use Rattle.zs_ids.specs.declared.block.Item.{Item}
 use Rattle.zs_ids.specs.declared.block.Place.{Place}
+use Rattle.zs_ids.specs.Graph.{Has}
 use Rattle.zs_objset.specs.declared.block.StagedBlock.{StagedBlock}
 use Rattle.zs_io.specs.Told.{Told, over}
 use Rattle.zs_io.specs.Faults.{Rose}
@@ -34,6 +35,16 @@ has_sum item bytes = pointwise ◌==◌ (sha256 bytes) item.sum
 abbrev pub IsOn : Item → ℕ → Type 0
 IsOn item size = start_of item + size_of item ≤ size
 
+-- an item has at least a sector and at most the size of the greatest block, and its copy is whole on each device of these sizes
+pub record LiesOn (item : Item) (sizes : List ℕ) : Type 0 where
+  pub some : 512 ≤ size_of item
+  pub most : size_of item ≤ 131072
+  pub on : (k : ℕ) → k < length sizes → IsOn item (slice_index_or sizes k 0)
+
+-- so does each of some items
+abbrev pub AllLieOn : List Item → List ℕ → Type 0
+AllLieOn items sizes = (i : Item) → Has items i → LiesOn i sizes
+
 -- what k of a list of devices tells, and how often a call of it has failed
 abbrev pub told_at : List (Option (List ℕ)) → ℕ → Option (List ℕ)
 told_at devices k = slice_index_or devices k None
@@ -48,6 +59,15 @@ letter false false = Bad
 abbrev pub told_after : ℕ → List ℕ → CopyResult → Option (List ℕ) → Option (List ℕ)
 told_after at good Rewritten told = option_map (over at good) told
 told_after at good _ told = told
+
+-- what the devices tell where that of one is changed
+abbrev pub changed_at : List (Option (List ℕ)) → ℕ → (Option (List ℕ) → Option (List ℕ)) → List (Option (List ℕ))
+changed_at devices i change = slice_set devices i (change (told_at devices i))
+
+-- each of so many devices tells what it does after the check of its copy, by the letters of the copies
+abbrev pub AreRewritten : Item → ℕ → List ℕ → List CopyResult → List (Option (List ℕ)) → List (Option (List ℕ)) → Type 0
+AreRewritten item width good copies old new =
+    (k : ℕ) → k < width → told_at new k ≡ told_after (start_of item) good (slice_index_or copies k Missing) (told_at old k)
 
 -- The first copies were read: which of them are good, and where one is, bytes that have the sum.
 pub record AreRead (item : Item) (count : ℕ) (devices : List (Option (List ℕ))) (goods : List Bool) (good : List ℕ) : Type 0 where
@@ -65,7 +85,7 @@ pub record IsChecked (item : Item) (width : ℕ) (old new : List (Option (List �
   pub read : AreRead item width old goods good
   pub letters : (k : ℕ) → k < width → slice_index_or copies k Missing ≡ letter (slice_index_or goods k false) (list_any (λ g. g) goods)
   pub missing : (k : ℕ) → width ≤ k → slice_index_or copies k Missing ≡ Missing
-  pub after : (k : ℕ) → k < width → told_at new k ≡ told_after (start_of item) good (slice_index_or copies k Missing) (told_at old k)
+  pub after : AreRewritten item width good copies old new
 
 -- the entry is of the item's piece, with its size and sum
 pub record IsEntryOf (item : Item) (entry : Entry) : Type 0 where
@@ -87,6 +107,14 @@ pub record HaveCause {T : Type 0} (before now : List ℕ) (result : Result T Bay
 abbrev pub first_sector : List Place → ℕ
 first_sector [] = 0
 first_sector (place ∷ places) = place.sector
+
+-- the block lies with all its bytes on a device of that size
+abbrev pub FitsOn : StagedBlock → ℕ → Type 0
+FitsOn block size = 512 * first_sector block.bp.places + length block.bytes ≤ size
+
+-- so does each of some blocks, on each device of these sizes
+abbrev pub AllFit : List StagedBlock → List ℕ → Type 0
+AllFit blocks sizes = (b : StagedBlock) → Has blocks b → (k : ℕ) → k < length sizes → FitsOn b (slice_index_or sizes k 0)
 
 -- the bytes of a device with a block written over them
 abbrev pub put_over : StagedBlock → List ℕ → List ℕ

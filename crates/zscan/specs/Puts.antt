@@ -18,6 +18,14 @@ pub record PutsPart (text : List ℕ) (before now : Option (List ℕ)) : Type 0 
   pub many : ℕ
   pub put : now ≡ option_map (λ bytes. bytes ++ take many text) before
 
+-- since whenever the one text had been put, the other has been put by now
+abbrev pub PutsOn : List ℕ → List ℕ → Option (List ℕ) → Option (List ℕ) → Type 0
+PutsOn old new before now = (start : Option (List ℕ)) → Puts old start before → Puts new start now
+
+-- or a beginning of it
+abbrev pub PutsPartOn : List ℕ → List ℕ → Option (List ℕ) → Option (List ℕ) → Type 0
+PutsPartOn old new before now = (start : Option (List ℕ)) → Puts old start before → PutsPart new start now
+
 -- the line that tells a fault of a script
 abbrev pub fault_line : ℕ → Why → List ℕ
 fault_line number why = codes "script " ++ decimal number ++ codes " " ++ why_name why ++ codes "\n"

@@ -15,15 +15,17 @@ use Rattle.zscan.specs.declared.stop.Stop.TheVariants as stops
 use Rattle.zscan.specs.Mirror.{SomeRose}
 use Rattle.zscan.specs.Images.{AreFit, IsImageFault}
 
--- no sync is in progress and the pool is not suspended
+-- no sync is in progress, the pool is not suspended, and no read is open
 pub record IsUp (p : PoolView) : Type 0 where
   pub between : p.core.state.stage ≡ Between
   pub up : p.core.state.suspended ≡ false
+  pub unread : p.core.state.reads ≡ []
 
 -- the pool is ready for a line: it is up, and no steps of a line stand at the end of its history that no event closed
 pub record IsReady (p : PoolView) : Type 0 where
   pub between : p.core.state.stage ≡ Between
   pub up : p.core.state.suspended ≡ false
+  pub unread : p.core.state.reads ≡ []
   pub fresh : line_steps p.history ≡ []
 
 -- the history is the old one and what came since, which has just these commands

@@ -1,5 +1,5 @@
 -- The words of the command line, and what of a script is read.
-use Rattle.std.specs.Prelude.{ℕ, ◌==◌, ◌&&◌, not, nat_lt, if◌then◌else◌, Bool, true, false, List, [], ◌∷◌, length, take, codes, String, string_bytes, Result, Ok, Err}
+use Rattle.std.specs.Prelude.{ℕ, ◌==◌, ◌&&◌, not, nat_lt, if◌then◌else◌, Bool, true, false, List, [], ◌∷◌, length, map, take, drop, codes, String, string_bytes, Result, Ok, Err}
 use Rattle.std.specs.declared.alloc.Global.{Global}
 use Rattle.std.specs.List.{list_all}
 use Rattle.std.specs.Cmp.Lexicographic.{pointwise}
@@ -24,6 +24,10 @@ are_images words =
 unfoldable pub is_step : List (String Global) → Bool
 is_step [] = false
 is_step (verb ∷ images) = pointwise ◌==◌ (string_bytes verb) (codes "step") && are_images images
+
+-- the names of the images: the words behind the first
+abbrev pub names_in : List (String Global) → List (List ℕ)
+names_in words = map string_bytes (drop 1 words)
 
 -- as much of a script as is read: one byte more than the most that a script may have
 abbrev pub read_of : List ℕ → List ℕ

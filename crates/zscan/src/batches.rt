@@ -2,16 +2,18 @@
 
 ghost use Rattle.std.specs.Prelude.{◌≡◌, ◌≤◌, ◌<◌, ◌++◌, ◌∷◌, [], ℕ, List, true, length, map, OnOk, OnErr, IfOk, IsErrOf, Err, slice_index_or};
 ghost use Rattle.zs_ids.specs.Graph.{Has};
-ghost use Rattle.zs_scan.specs.Steps.{AreOf};
+ghost use Rattle.zs_ledger.specs.Entry.{AreCopies, HaveCopies};
 ghost use Rattle.zs_core.specs.declared.event.Event.{Event};
+ghost use Rattle.zs_core.specs.History.{text_of};
+ghost use Rattle.zs_core.specs.Line.{TookAll};
 ghost use Rattle.zs_core.specs.Told.{letter_of, issued_of, TellsIssue, line_steps};
-ghost use Rattle.zscan.specs.Mirror.{IsOn, IsEntryOf, HaveCause};
+ghost use Rattle.zscan.specs.Mirror.{LiesOn, AllLieOn, IsChecked, IsEntryOf, HaveCause};
 ghost use Rattle.zscan.specs.Session.{IsUp, IsReady, GoesOn};
-ghost use Rattle.zscan.specs.Batches.{HadVerdict, JudgesWhole, entries_of};
+ghost use Rattle.zscan.specs.Plays.{Went, WentAlone, AreChecks, AreDevicesOf};
+ghost use Rattle.zscan.specs.Batches.{HadVerdict, TookLowest, entries_of};
 
-use crate::images::size_at;
 use crate::lines::end_line;
-use crate::mirror::{check, end_of};
+use crate::mirror::check;
 use std::alloc::{AllocError, Global};
 use zs_core::{Event, Pool, Step, Verdicts};
 use zs_ids::{Item, Seq};
@@ -23,20 +25,7 @@ use zs_script::{Command, IssuedPiece, Letter, Reply};
 /// The greatest size of a block in bytes.
 pub const BLOCK_BYTES: usize = 131_072;
 
-/// Whether a copy of the item is whole on each of the devices.
-pub fn is_on_each<D: Device>(devices: &[D], item: &Item) -> bool
-    ensures { result ≡ true → (k : ℕ) → k < length devices.now → IsOn item.now (slice_index_or (map D.size devices.now) k 0) }
-{
-    let end = end_of(item);
-    for i in 0..devices.len() {
-        if size_at(devices, i) < end {
-            return false;
-        }
-    }
-    true
-}
-
-/// Checks the items in order, and gives one entry for each.
+/// Checks the items in order, and gives one entry for each, with the letters of its check.
 fn check_items<D: Device>(
     alloc: Global,
     devices: &mut [D],
@@ -45,27 +34,22 @@ fn check_items<D: Device>(
     buf: &mut [u8],
 ) -> Result<Vec<Entry>, BayFault>
     requires width { length devices.old ≤ 4 }
+    requires on { AllLieOn items.now (map D.size devices.old) }
     requires good { length good.old ≡ 131072 }
     requires buf { length buf.old ≡ 131072 }
-    ensures entries { IfOk result (λ entries. AreOf items.now entries.items) }
+    ensures checks { IfOk result (λ entries. AreChecks (length devices.old) items.now (map D.told devices.old) entries.items (map D.told devices.new)) }
+    ensures copies { IfOk result (λ entries. HaveCopies (length devices.old) entries.items) }
     ensures sizes { map D.size devices.new ≡ map D.size devices.old }
     ensures cause { HaveCause (map D.faults devices.old) (map D.faults devices.new) result }
 {
     let mut entries = Vec::new(alloc);
     for item in items {
-        let entry = match check_item(devices, item, good, buf) {
-            Ok(entry) => entry,
-            Err(fault) => return Err(fault),
-        };
-        match entries.push(entry) {
-            Ok(()) => {}
-            Err(_) => return Err(BayFault::Memory),
-        }
+        entries.push(check_item(devices, item, good, buf)?)?;
     }
     Ok(entries)
 }
 
-/// Checks an item. That a pool's pieces lie on its devices is tested here, and not proved yet.
+/// Checks an item.
 fn check_item<D: Device>(
     devices: &mut [D],
     item: &Item,
@@ -73,20 +57,18 @@ fn check_item<D: Device>(
     buf: &mut [u8],
 ) -> Result<Entry, BayFault>
     requires width { length devices.old ≤ 4 }
+    requires on { LiesOn item.now (map D.size devices.old) }
     requires good { length good.old ≡ 131072 }
     requires buf { length buf.old ≡ 131072 }
+    ensures checked { IfOk result (λ entry. IsChecked item.now (length devices.old) (map D.told devices.old) (map D.told devices.new) entry.copies) }
     ensures entry { IfOk result (λ entry. IsEntryOf item.now entry) }
+    ensures copies { IfOk result (λ entry. AreCopies (length devices.old) entry.copies) }
     ensures sizes { map D.size devices.new ≡ map D.size devices.old }
     ensures cause { HaveCause (map D.faults devices.old) (map D.faults devices.new) result }
 {
-    let size = 512 * usize::from(item.sectors);
-    if size > BLOCK_BYTES || !is_on_each(devices, item) {
-        return Err(BayFault::Memory);
-    }
-    match check(devices, item, &mut good[..size], &mut buf[..size]) {
-        Ok(entry) => Ok(entry),
-        Err(fault) => Err(fault),
-    }
+    let sectors = item.sectors;
+    let size = 512 * usize::from(sectors);
+    check(devices, item, &mut good[..size], &mut buf[..size])
 }
 
 /// Checks a batch in flight and gives the pool its verdict; how many entries were made. Where it fails, the pool is as it
@@ -102,28 +84,24 @@ pub fn judge<D: Device>(
 ) -> Result<usize, BayFault>
     requires up { IsUp pool.old }
     requires flies { Has pool.old.core.scan.flight batch.now }
-    requires width { length devices.old ≤ 4 }
+    requires devices { AreDevicesOf pool.old.core.shape (map D.size devices.old) }
     requires good { length good.old ≡ 131072 }
     requires buf { length buf.old ≡ 131072 }
-    ensures verdict { IfOk result (λ many. HadVerdict by pool.old batch.now.number many pool.new) }
-    ensures whole { OnOk result (JudgesWhole by pool.old batch.now pool.new) }
+    ensures goes_on { OnOk result (Went pool.old pool.new (map D.told devices.old) (map D.told devices.new) []) }
+    ensures verdict { IfOk result (λ many. HadVerdict by pool.old batch.now many pool.new) }
     ensures graph { OnOk result (pool.new.core.state.graph ≡ pool.old.core.state.graph) }
     ensures up { OnOk result (IsUp pool.new) }
     ensures err { OnErr result (pool.new ≡ pool.old) }
     ensures sizes { map D.size devices.new ≡ map D.size devices.old }
     ensures cause { HaveCause (map D.faults devices.old) (map D.faults devices.new) result }
 {
-    let verdicts = match check_items(alloc, devices, batch.items.as_slice(), good, buf) {
-        Ok(entries) => Verdicts {
-            number: batch.number,
-            entries: Seq::from_vec(entries),
-        },
-        Err(fault) => return Err(fault),
+    pool.facts();
+    let entries = check_items(alloc, devices, batch.items.as_slice(), good, buf)?;
+    let verdicts = Verdicts {
+        number: batch.number,
+        entries: Seq::from_vec(entries),
     };
-    match pool.verdict(by, &verdicts) {
-        Ok(many) => Ok(many),
-        Err(_) => Err(BayFault::Memory),
-    }
+    Ok(pool.verdict(by, &verdicts)?)
 }
 
 /// Takes a batch of a mirror's lowest waiting pieces and leaves it in flight, as a line. Fails only for want of memory.
@@ -131,16 +109,14 @@ pub fn hold(alloc: Global, pool: &mut Pool, by: u8, vdev: u8, pieces: u32) -> Re
     requires ready { IsReady pool.old }
     requires some { 1 ≤ pieces }
     ensures ready { OnOk result (IsReady pool.new) }
-    ensures goes_on { OnOk result (GoesOn pool.old.history pool.new.history (Command.Hold vdev pieces ∷ [])) }
+    ensures goes_on { OnOk result (WentAlone pool.old pool.new (Command.Hold vdev pieces ∷ [])) }
+    ensures batch { OnOk result (TookLowest pool.old pool.new vdev pieces) }
     ensures memory { OnErr result (result ≡ Err BayFault.Memory) }
     ensures went_on { OnErr result (GoesOn pool.old.history pool.new.history []) }
 {
-    let Ok(batch) = pool.hold(by, vdev, pieces) else {
-        return Err(BayFault::Memory);
-    };
-    let Ok(sectors) = sectors_of(alloc, batch.items.as_slice()) else {
-        return Err(BayFault::Memory);
-    };
+    pool.facts();
+    let batch = pool.hold(by, vdev, pieces)?;
+    let sectors = sectors_of(alloc, batch.items.as_slice())?;
     let reply = Reply::Held { vdev, sectors };
     end_line(pool, by, &Command::Hold { vdev, pieces }, reply)
 }
@@ -169,19 +145,18 @@ pub fn issue<D: Device>(
 ) -> Result<(), BayFault>
     requires ready { IsReady pool.old }
     requires some { 1 ≤ pieces }
-    requires width { length devices.old ≤ 4 }
+    requires devices { AreDevicesOf pool.old.core.shape (map D.size devices.old) }
     requires good { length good.old ≡ 131072 }
     requires buf { length buf.old ≡ 131072 }
     ensures ready { OnOk result (IsReady pool.new) }
-    ensures goes_on { OnOk result (GoesOn pool.old.history pool.new.history (Command.Issue vdev pieces ∷ [])) }
+    ensures goes_on { OnOk result (Went pool.old pool.new (map D.told devices.old) (map D.told devices.new) (Command.Issue vdev pieces ∷ [])) }
+    ensures batch { OnOk result (TookLowest pool.old pool.new vdev pieces) }
+    ensures silent { IsErrOf result BayFault.Failed → text_of pool.new.history ≡ text_of pool.old.history }
     ensures went_on { OnErr result (GoesOn pool.old.history pool.new.history []) }
     ensures sizes { map D.size devices.new ≡ map D.size devices.old }
     ensures cause { HaveCause (map D.faults devices.old) (map D.faults devices.new) result }
 {
-    let shown = match check_some(alloc, pool, devices, by, vdev, pieces, good, buf) {
-        Ok(shown) => shown,
-        Err(fault) => return Err(fault),
-    };
+    let shown = check_some(alloc, pool, devices, by, vdev, pieces, good, buf)?;
     let reply = Reply::Issued {
         vdev,
         pieces: shown,
@@ -202,30 +177,26 @@ fn check_some<D: Device>(
 ) -> Result<Seq<IssuedPiece>, BayFault>
     requires ready { IsReady pool.old }
     requires some { 1 ≤ pieces }
-    requires width { length devices.old ≤ 4 }
+    requires devices { AreDevicesOf pool.old.core.shape (map D.size devices.old) }
     requires good { length good.old ≡ 131072 }
     requires buf { length buf.old ≡ 131072 }
     ensures told { IfOk result (λ shown. TellsIssue (line_steps pool.new.history) vdev pieces shown) }
+    ensures all { IfOk result (λ shown. TookAll pool.new.core.scan vdev pieces (length shown)) }
     ensures up { OnOk result (IsUp pool.new) }
-    ensures goes_on { OnOk result (GoesOn pool.old.history pool.new.history []) }
+    ensures goes_on { OnOk result (Went pool.old pool.new (map D.told devices.old) (map D.told devices.new) []) }
+    ensures batch { OnOk result (TookLowest pool.old pool.new vdev pieces) }
+    ensures silent { IsErrOf result BayFault.Failed → text_of pool.new.history ≡ text_of pool.old.history }
     ensures went_on { OnErr result (GoesOn pool.old.history pool.new.history []) }
     ensures sizes { map D.size devices.new ≡ map D.size devices.old }
     ensures cause { HaveCause (map D.faults devices.old) (map D.faults devices.new) result }
 {
-    let Ok(batch) = pool.hold(by, vdev, pieces) else {
-        return Err(BayFault::Memory);
-    };
+    pool.facts();
+    let batch = pool.hold(by, vdev, pieces)?;
     if batch.items.len() == 0 {
         return Ok(Seq::new(alloc));
     }
-    match judge(alloc, pool, devices, by, &batch, good, buf) {
-        Ok(_) => {}
-        Err(fault) => return Err(fault),
-    }
-    match issued_last(alloc, pool.history()) {
-        Ok(shown) => Ok(shown),
-        Err(_) => Err(BayFault::Memory),
-    }
+    judge(alloc, pool, devices, by, &batch, good, buf)?;
+    Ok(issued_last(alloc, pool.history())?)
 }
 
 /// What the checks found of which the last event tells.

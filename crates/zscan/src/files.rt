@@ -2,11 +2,15 @@
 // each raises its count at each failure. What the system does with these calls is trusted.
 ghost use Rattle.std.specs.Prelude.{◌≡◌, None, IfOk};
 ghost use Rattle.std.proofs.Common.{rules};
+ghost use Rattle.std.specs.Io.{ReadsAtMost};
 ghost use Rattle.zs_io.specs.Faults.{HasCause};
 
-use std::fs::{File, Files, OpenFile, OpenOptions};
+mod standard;
+
+pub use standard::StandIns;
+use std::fs::{File, Files, OpenOptions};
 use std::io;
-use std::io::{Read, Write};
+use std::io::{ErrorKind, Read, Write};
 use std::os::unix::fs::FileExt;
 use zs_io::{Bay, BayFault, Device, Failed, Sink, Source};
 
@@ -30,7 +34,7 @@ impl<R: Read> Source for Input<R> {
     ghost faults = { λ s. s.faults };
 
     fn read(&mut self, buf: &mut [u8]) -> Result<usize, Failed> {
-        match self.from.read(buf) {
+        match read_on(&mut self.from, buf) {
             Ok(n) => Ok(n),
             Err(_) => {
                 self.faults = self.faults.saturating_add(1);
@@ -38,6 +42,19 @@ impl<R: Read> Source for Input<R> {
             }
         }
     }
+}
+
+// Reads, and again where a signal broke in. A read that no try finishes has failed.
+fn read_on<R: Read>(from: &mut R, buf: &mut [u8]) -> io::Result<usize>
+    ensures bound { ReadsAtMost result buf.new }
+{
+    for _ in 0..u64::MAX {
+        match from.read(buf) {
+            Err(error) if error.kind() == ErrorKind::Interrupted => {}
+            outcome => return outcome,
+        }
+    }
+    Err(io::Error::from(ErrorKind::Interrupted))
 }
 
 /// A sink over anything that is written, as standard output.
@@ -125,12 +142,17 @@ impl Device for ImageFile {
 
     ghost images_fit = { λ device c left. absurd left };
 
+    ghost images_are_bytes = { λ device c left. absurd left };
+
+    ghost past_is_bytes = { λ device t c left. absurd left };
+
     ghost counts_now = { λ device t c later left. left };
 
     ghost only_now = { λ device c left. left };
 }
 
-/// A bay of image files, each of which must exist, and is opened to be read and written.
+/// A bay of image files, each of which must exist, is opened to be read and written, and is locked as long as it is
+/// open.
 #[derive(Drop)]
 pub struct ImageFiles<R> {
     files: R,
@@ -149,6 +171,8 @@ impl<R: Files<File = File>> Bay for ImageFiles<R> {
 
     ghost left = { λ _. None };
 
+    ghost asked = { λ _. None };
+
     ghost faults = { λ b. b.faults };
 
     fn fetch(&mut self, name: &str) -> Result<ImageFile, BayFault> {
@@ -160,6 +184,8 @@ fn opened<R: Files<File = File>>(files: &R, name: &str) -> io::Result<ImageFile>
     ensures { IfOk result (λ d. d.faults ≡ 0) }
 {
     let file = OpenOptions::new().read(true).write(true).open(files, name)?;
+    // Two devices over one file would be copies of nothing: the lock refuses it under a second name, and to another run.
+    file.try_lock()?;
     let bytes = file.metadata()?.len();
     Ok(ImageFile {
         file,

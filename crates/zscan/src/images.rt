@@ -1,11 +1,11 @@
 //! The images of a pool: fetching them, and whether they can be made a new one.
 
-ghost use Rattle.std.specs.Prelude.{◌≡◌, ◌≤◌, ◌<◌, ◌+◌, ◌*◌, ◌/◌, ◌++◌, ◌≢◌, ℕ, [], min, true, false, length, map, option_map, IfOk, OnOk, OnErr, IsErrOf, slice_index, slice_range, Err};
+ghost use Rattle.std.specs.Prelude.{◌≡◌, ◌≤◌, ◌<◌, ◌+◌, ◌*◌, ◌/◌, ◌++◌, ◌≢◌, ℕ, [], min, true, false, length, map, option_map, IfOk, OnOk, OnErr, IsErrOf, slice_index, slice_range, string_bytes, Err};
 ghost use Rattle.zs_io.specs.Told.{Told};
 ghost use Rattle.zs_io.specs.Faults.{HasCause};
 ghost use Rattle.zs_script.specs.declared.refusal.Refusal.{Refusal};
 ghost use Rattle.zscan.specs.Mirror.{told_at, HaveCause, SomeRose};
-ghost use Rattle.zscan.specs.Images.{head_of, is_zero, least_sectors, most_sectors, AreFit, AreBlank, SomeWritten, IsImageFault, IsSizeFault, AreFresh};
+ghost use Rattle.zscan.specs.Images.{head_of, is_zero, least_sectors, most_sectors, AreFit, AreBlank, SomeWritten, IsImageFault, IsSizeFault, AreFresh, AsksAll, AsksFirst};
 
 use crate::mirror::read_device;
 use std::alloc::{AllocError, AllocFailed, Global};
@@ -49,7 +49,8 @@ impl<T: Drop> From<AllocFailed<T>> for ImageFault {
     }
 }
 
-/// Fetches the images of these names in their order, and puts them into the list, which is empty.
+/// Fetches the images of these names in their order, and puts them into the list, which is empty. No name is asked for
+/// twice, and none behind one that can't be had.
 pub fn fetch_images<B: Bay>(
     names: &[String],
     bay: &mut B,
@@ -58,6 +59,9 @@ pub fn fetch_images<B: Bay>(
     requires { devices.old.items ≡ [] }
     ensures left { OnOk result (B.left bay.old ≡ option_map (λ rest. devices.new.items ++ rest) (B.left bay.new)) }
     ensures count { OnOk result (length devices.new.items ≡ length names.now) }
+    ensures fewer { OnErr result (length devices.new.items < length names.now) }
+    ensures asked { OnOk result (AsksAll (map string_bytes names.now) (B.asked bay.old) (B.asked bay.new)) }
+    ensures asked_cut { AsksFirst (map string_bytes names.now) (B.asked bay.old) (B.asked bay.new) }
     ensures fresh { AreFresh (map B.Dev.faults devices.new.items) }
     ensures cause { HasCause (B.faults bay.old) (B.faults bay.new) result }
 {
@@ -187,6 +191,8 @@ pub fn test_images<D: Device>(
 ) -> Result<Vec<u32>, ImageFault>
     ensures fit { OnOk result (AreFit width blocks (map D.size devices.old) (map D.told devices.old)) }
     ensures count { IfOk result (λ sectors. length sectors.items ≡ width) }
+    ensures devices { OnOk result (length devices.old ≡ width) }
+    ensures sectors { IfOk result (λ sectors. (k : ℕ) → k < length devices.old → slice_index sectors.items k ≡ slice_index (map D.size devices.old) k / 512) }
     ensures least { IfOk result (λ sectors. (k : ℕ) → k < length sectors.items → least_sectors blocks ≤ slice_index sectors.items k) }
     ensures most { IfOk result (λ sectors. (k : ℕ) → k < length sectors.items → slice_index sectors.items k ≤ most_sectors) }
     ensures unfit { (fault : Refusal) → IsErrOf result (ImageFault.Unfit fault) → IsImageFault width blocks (map D.size devices.old) (map D.told devices.old) fault }

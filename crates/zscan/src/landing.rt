@@ -5,10 +5,12 @@ ghost use Rattle.zs_ids.specs.Graph.{Has};
 ghost use Rattle.zs_core.specs.declared.event.Event.{Event};
 ghost use Rattle.zs_scan.specs.Flight.{first_of};
 ghost use Rattle.zs_ledger.specs.Kept.{is_piece};
-ghost use Rattle.zs_core.specs.Told.{letter_of, landed_of, shown_by, made_by, TellsLand, line_steps};
+ghost use Rattle.zs_core.specs.History.{text_of};
+ghost use Rattle.zs_core.specs.Told.{letter_of, landed_of, shown_by};
 ghost use Rattle.zscan.specs.Mirror.{HaveCause};
 ghost use Rattle.zscan.specs.Session.{IsUp, IsReady, GoesOn};
-ghost use Rattle.zscan.specs.Batches.{HadVerdict, GoesOnScanning, pieces_of};
+ghost use Rattle.zscan.specs.Plays.{Went, AreDevicesOf};
+ghost use Rattle.zscan.specs.Batches.{LandsFirst, HasLanded, GoesOnScanning};
 
 use crate::batches::{entries_of, judge, letters_of};
 use crate::lines::end_line;
@@ -46,11 +48,13 @@ pub fn land_next<D: Device>(
     buf: &mut [u8],
 ) -> Result<Option<usize>, BayFault>
     requires up { IsUp pool.old }
-    requires width { length devices.old ≤ 4 }
+    requires devices { AreDevicesOf pool.old.core.shape (map D.size devices.old) }
     requires good { length good.old ≡ 131072 }
     requires buf { length buf.old ≡ 131072 }
     ensures none { result ≡ Ok None → (pool.old.core.scan.flight ≡ []) × (pool.new ≡ pool.old) }
-    ensures verdict { IfOk result (λ next. IfSome next (λ many. (number : ℕ) × HadVerdict by pool.old number many pool.new)) }
+    ensures goes_on { OnOk result (Went pool.old pool.new (map D.told devices.old) (map D.told devices.new) []) }
+    ensures silent { text_of pool.new.history ≡ text_of pool.old.history }
+    ensures verdict { IfOk result (λ next. IfSome next (λ many. LandsFirst by pool.old many pool.new)) }
     ensures fewer { (many : ℕ) → result ≡ Ok (Some many) → length pool.new.core.scan.flight < length pool.old.core.scan.flight }
     ensures scan { OnOk result (GoesOnScanning pool.old.core pool.new.core) }
     ensures up { OnOk result (IsUp pool.new) }
@@ -58,16 +62,10 @@ pub fn land_next<D: Device>(
     ensures sizes { map D.size devices.new ≡ map D.size devices.old }
     ensures cause { HaveCause (map D.faults devices.old) (map D.faults devices.new) result }
 {
-    let Ok(first) = first_batch(alloc, pool.scan()) else {
-        return Err(BayFault::Memory);
-    };
-    let Some(batch) = first else {
+    let Some(batch) = first_batch(alloc, pool.scan())? else {
         return Ok(None);
     };
-    match judge(alloc, pool, devices, by, &batch, good, buf) {
-        Ok(many) => Ok(Some(many)),
-        Err(fault) => Err(fault),
-    }
+    Ok(Some(judge(alloc, pool, devices, by, &batch, good, buf)?))
 }
 
 /// Checks the batch that was taken first of those in flight, where one is, and puts what became of its pieces to what was
@@ -83,28 +81,25 @@ fn land_more<D: Device>(
     buf: &mut [u8],
 ) -> Result<Option<u32>, BayFault>
     requires up { IsUp pool.old }
-    requires told { TellsLand (line_steps pool.old.history) made landed.old.items }
-    requires width { length devices.old ≤ 4 }
+    requires landed { HasLanded pool.old made landed.old.items }
+    requires devices { AreDevicesOf pool.old.core.shape (map D.size devices.old) }
     requires good { length good.old ≡ 131072 }
     requires buf { length buf.old ≡ 131072 }
     ensures none { result ≡ Ok None → (pool.old.core.scan.flight ≡ []) × (pool.new ≡ pool.old) × (landed.new ≡ landed.old) }
-    ensures told { IfOk result (λ next. IfSome next (λ made. TellsLand (line_steps pool.new.history) made landed.new.items)) }
+    ensures landed { IfOk result (λ next. IfSome next (λ made. HasLanded pool.new made landed.new.items)) }
     ensures fewer { (made : ℕ) → result ≡ Ok (Some made) → length pool.new.core.scan.flight < length pool.old.core.scan.flight }
+    ensures silent { text_of pool.new.history ≡ text_of pool.old.history }
     ensures up { OnOk result (IsUp pool.new) }
-    ensures goes_on { OnOk result (GoesOn pool.old.history pool.new.history []) }
+    ensures goes_on { OnOk result (Went pool.old pool.new (map D.told devices.old) (map D.told devices.new) []) }
     ensures went_on { OnErr result (GoesOn pool.old.history pool.new.history []) }
     ensures sizes { map D.size devices.new ≡ map D.size devices.old }
     ensures cause { HaveCause (map D.faults devices.old) (map D.faults devices.new) result }
 {
-    let many = match land_next(alloc, pool, devices, by, good, buf) {
-        Ok(Some(many)) => many,
-        Ok(None) => return Ok(None),
-        Err(fault) => return Err(fault),
+    pool.facts();
+    let Some(many) = land_next(alloc, pool, devices, by, good, buf)? else {
+        return Ok(None);
     };
-    match show_last(pool.history(), landed) {
-        Ok(()) => {}
-        Err(_) => return Err(BayFault::Memory),
-    }
+    show_last(pool.history(), landed)?;
     if many > (u32::MAX - made) as usize {
         return Err(BayFault::Memory);
     }
@@ -193,23 +188,23 @@ fn land_each<D: Device>(
 ) -> Result<u32, BayFault>
     requires ready { IsReady pool.old }
     requires empty { landed.old.items ≡ [] }
-    requires width { length devices.old ≤ 4 }
+    requires devices { AreDevicesOf pool.old.core.shape (map D.size devices.old) }
     requires good { length good.old ≡ 131072 }
     requires buf { length buf.old ≡ 131072 }
-    ensures told { IfOk result (λ made. TellsLand (line_steps pool.new.history) made landed.new.items) }
+    ensures landed { IfOk result (λ made. HasLanded pool.new made landed.new.items) }
     ensures all { OnOk result (pool.new.core.scan.flight ≡ []) }
+    ensures silent { text_of pool.new.history ≡ text_of pool.old.history }
     ensures up { OnOk result (IsUp pool.new) }
-    ensures goes_on { OnOk result (GoesOn pool.old.history pool.new.history []) }
+    ensures goes_on { OnOk result (Went pool.old pool.new (map D.told devices.old) (map D.told devices.new) []) }
     ensures went_on { OnErr result (GoesOn pool.old.history pool.new.history []) }
     ensures sizes { map D.size devices.new ≡ map D.size devices.old }
     ensures cause { HaveCause (map D.faults devices.old) (map D.faults devices.new) result }
 {
     let mut made = 0;
     loop {
-        match land_more(alloc, pool, devices, by, made, landed, good, buf) {
-            Ok(Some(more)) => made = more,
-            Ok(None) => return Ok(made),
-            Err(fault) => return Err(fault),
+        match land_more(alloc, pool, devices, by, made, landed, good, buf)? {
+            Some(more) => made = more,
+            None => return Ok(made),
         }
     }
 }
@@ -224,20 +219,19 @@ pub fn land<D: Device>(
     buf: &mut [u8],
 ) -> Result<(), BayFault>
     requires ready { IsReady pool.old }
-    requires width { length devices.old ≤ 4 }
+    requires devices { AreDevicesOf pool.old.core.shape (map D.size devices.old) }
     requires good { length good.old ≡ 131072 }
     requires buf { length buf.old ≡ 131072 }
     ensures ready { OnOk result (IsReady pool.new) }
-    ensures goes_on { OnOk result (GoesOn pool.old.history pool.new.history (Command.Land ∷ [])) }
+    ensures goes_on { OnOk result (Went pool.old pool.new (map D.told devices.old) (map D.told devices.new) (Command.Land ∷ [])) }
+    ensures silent { IsErrOf result BayFault.Failed → text_of pool.new.history ≡ text_of pool.old.history }
     ensures went_on { OnErr result (GoesOn pool.old.history pool.new.history []) }
     ensures sizes { map D.size devices.new ≡ map D.size devices.old }
     ensures cause { HaveCause (map D.faults devices.old) (map D.faults devices.new) result }
 {
     let mut landed = Vec::new(alloc);
-    let entries = match land_each(alloc, pool, devices, by, &mut landed, good, buf) {
-        Ok(entries) => entries,
-        Err(fault) => return Err(fault),
-    };
+    let entries = land_each(alloc, pool, devices, by, &mut landed, good, buf)?;
+    pool.facts();
     let reply = Reply::Landed {
         entries,
         pieces: Seq::from_vec(landed),

@@ -2,14 +2,17 @@
 
 ghost use Rattle.std.specs.Prelude.{◌≡◌, ◌≤◌, ◌+◌, ◌*◌, ◌∷◌, [], ℕ, false, length, map, OnOk, OnErr, IsErrOf, Err};
 ghost use Rattle.std.specs.Option.{option_copied};
+ghost use Rattle.zs_core.specs.History.{text_of};
 ghost use Rattle.zs_core.specs.Line.{IsLineReply};
 ghost use Rattle.zs_core.specs.Reading.{IsGotFor};
 ghost use Rattle.zs_core.specs.Shapes.{IsPoolCommand};
 ghost use Rattle.zs_script.specs.Lines.{IsLater};
 ghost use Rattle.zscan.specs.Mirror.{HaveCause};
+ghost use Rattle.zscan.specs.OpenReads.{AwaitsRead, EndsOpenRead};
 ghost use Rattle.zscan.specs.Session.{IsUp, IsReady, GoesOn, GoesPart};
+ghost use Rattle.zscan.specs.Plays.{Went, WentAlone, AreDevicesOf};
 
-use crate::batches::{BLOCK_BYTES, hold, is_on_each, issue};
+use crate::batches::{hold, issue};
 use crate::finishing::{finish, sync};
 use crate::landing::land;
 use crate::mirror::read_any;
@@ -25,17 +28,14 @@ pub fn end_line(pool: &mut Pool, by: u8, command: &Command, reply: Reply) -> Res
     requires reply { IsLineReply pool.old command.now reply }
     requires up { IsUp pool.old }
     ensures ready { OnOk result (IsReady pool.new) }
-    ensures goes_on { OnOk result (GoesOn pool.old.history pool.new.history (command.now ∷ [])) }
+    ensures goes_on { OnOk result (WentAlone pool.old pool.new (command.now ∷ [])) }
     ensures memory { OnErr result (result ≡ Err BayFault.Memory) }
     ensures went_on { OnErr result (GoesOn pool.old.history pool.new.history []) }
 {
-    let Ok(()) = pool.line(by, command, reply) else {
-        return Err(BayFault::Memory);
-    };
-    Ok(())
+    Ok(pool.line(by, command, reply)?)
 }
 
-/// Reads a record.
+/// Reads a record. A read that is not refused ends in the same line, by the bytes that were read.
 fn read<D: Device>(
     pool: &mut Pool,
     devices: &mut [D],
@@ -46,56 +46,44 @@ fn read<D: Device>(
     buf: &mut [u8],
 ) -> Result<(), BayFault>
     requires ready { IsReady pool.old }
+    requires devices { AreDevicesOf pool.old.core.shape (map D.size devices.old) }
     requires buf { length buf.old ≡ 131072 }
     ensures ready { OnOk result (IsReady pool.new) }
-    ensures goes_on { OnOk result (GoesOn pool.old.history pool.new.history (Command.Read ds.now object leaf ∷ [])) }
+    ensures goes_on { OnOk result (Went pool.old pool.new (map D.told devices.old) (map D.told devices.new) (Command.Read ds.now object leaf ∷ [])) }
+    ensures silent { IsErrOf result BayFault.Failed → text_of pool.new.history ≡ text_of pool.old.history }
     ensures went_on { OnErr result (GoesPart pool.old.history pool.new.history (Command.Read ds.now object leaf ∷ [])) }
     ensures sizes { map D.size devices.new ≡ map D.size devices.old }
     ensures cause { HaveCause (map D.faults devices.old) (map D.faults devices.new) result }
 {
+    pool.facts();
     let plan = match pool.read_begin(by, ds, object, leaf) {
         Ok(plan) => plan,
         Err(PoolFault::Refused) => return Ok(()),
         Err(PoolFault::Memory) => return Err(BayFault::Memory),
     };
     match plan {
-        ReadPlan::Staged(_) | ReadPlan::Hole => match end_read(pool, by, plan, None) {
-            Ok(()) => Ok(()),
-            Err(_) => Err(BayFault::Memory),
-        },
+        ReadPlan::Staged(_) | ReadPlan::Hole => end_read(pool, by, plan, None),
         ReadPlan::Pinned(item, _) => {
-            let size = 512 * usize::from(item.sectors);
-            if size == 0 || size > BLOCK_BYTES || !is_on_each(devices, &item) {
-                return Err(BayFault::Memory);
-            }
-            let copy = &mut buf[..size];
-            match read_any(devices, &item, copy) {
-                Ok(true) => match end_read(pool, by, plan, Some(copy)) {
-                    Ok(()) => Ok(()),
-                    Err(_) => Err(BayFault::Memory),
-                },
-                Ok(false) => match end_read(pool, by, plan, None) {
-                    Ok(()) => Ok(()),
-                    Err(_) => Err(BayFault::Memory),
-                },
-                Err(fault) => Err(fault),
+            let copy = &mut buf[..512 * usize::from(item.sectors)];
+            if read_any(devices, &item, copy)? {
+                end_read(pool, by, plan, Some(copy))
+            } else {
+                end_read(pool, by, plan, None)
             }
         }
     }
 }
 
-/// Ends a read. Fails only for want of memory.
+/// Ends a read that was begun just now. Fails only for want of memory.
 fn end_read(pool: &mut Pool, by: u8, plan: ReadPlan, got: Option<&[u8]>) -> Result<(), BayFault>
-    requires ready { IsReady pool.old }
     requires got { IsGotFor plan (option_copied got) }
+    requires begun { AwaitsRead by plan pool.old }
     ensures ready { OnOk result (IsReady pool.new) }
-    ensures goes_on { OnOk result (GoesOn pool.old.history pool.new.history []) }
+    ensures ended { OnOk result (EndsOpenRead by plan (option_copied got.entry) pool.old pool.new) }
     ensures memory { OnErr result (result ≡ Err BayFault.Memory) }
-    ensures went_on { OnErr result (GoesOn pool.old.history pool.new.history []) }
+    ensures err { OnErr result (pool.new ≡ pool.old) }
 {
-    let Ok(_) = pool.read_end(by, plan, got) else {
-        return Err(BayFault::Memory);
-    };
+    pool.read_end(by, plan, got)?;
     Ok(())
 }
 
@@ -110,11 +98,12 @@ pub fn run_line<D: Device>(
 ) -> Result<(), BayFault>
     requires later { IsLater line.now.command }
     requires ready { IsReady pool.old }
-    requires width { length devices.old ≤ 4 }
+    requires devices { AreDevicesOf pool.old.core.shape (map D.size devices.old) }
     requires good { length good.old ≡ 131072 }
     requires buf { length buf.old ≡ 131072 }
     ensures ready { OnOk result (IsReady pool.new) }
-    ensures goes_on { OnOk result (GoesOn pool.old.history pool.new.history (line.now.command ∷ [])) }
+    ensures goes_on { OnOk result (Went pool.old pool.new (map D.told devices.old) (map D.told devices.new) (line.now.command ∷ [])) }
+    ensures silent { IsErrOf result BayFault.Failed → text_of pool.new.history ≡ text_of pool.old.history }
     ensures went_on { OnErr result (GoesPart pool.old.history pool.new.history (line.now.command ∷ [])) }
     ensures sizes { map D.size devices.new ≡ map D.size devices.old }
     ensures cause { HaveCause (map D.faults devices.old) (map D.faults devices.new) result }
@@ -144,28 +133,25 @@ fn command(pool: &mut Pool, line: &Line) -> Result<(), BayFault>
     requires command { IsPoolCommand line.now.command }
     requires ready { IsReady pool.old }
     ensures ready { OnOk result (IsReady pool.new) }
-    ensures goes_on { OnOk result (GoesOn pool.old.history pool.new.history (line.now.command ∷ [])) }
+    ensures goes_on { OnOk result (WentAlone pool.old pool.new (line.now.command ∷ [])) }
     ensures memory { OnErr result (result ≡ Err BayFault.Memory) }
     ensures went_on { OnErr result (GoesOn pool.old.history pool.new.history []) }
 {
-    let Ok(_) = pool.command(line.by, &line.command) else {
-        return Err(BayFault::Memory);
-    };
+    pool.command(line.by, &line.command)?;
     Ok(())
 }
 
 /// Commits what is staged, as a line.
 fn end_sync<D: Device>(pool: &mut Pool, devices: &mut [D], by: u8) -> Result<(), BayFault>
     requires ready { IsReady pool.old }
+    requires devices { AreDevicesOf pool.old.core.shape (map D.size devices.old) }
     ensures ready { OnOk result (IsReady pool.new) }
-    ensures goes_on { OnOk result (GoesOn pool.old.history pool.new.history (Command.Sync ∷ [])) }
+    ensures goes_on { OnOk result (Went pool.old pool.new (map D.told devices.old) (map D.told devices.new) (Command.Sync ∷ [])) }
+    ensures silent { IsErrOf result BayFault.Failed → text_of pool.new.history ≡ text_of pool.old.history }
     ensures went_on { OnErr result (GoesOn pool.old.history pool.new.history []) }
     ensures sizes { map D.size devices.new ≡ map D.size devices.old }
     ensures cause { HaveCause (map D.faults devices.old) (map D.faults devices.new) result }
 {
-    match sync(pool, devices) {
-        Ok(()) => {}
-        Err(fault) => return Err(fault),
-    }
+    sync(pool, devices)?;
     end_line(pool, by, &Command::Sync, Reply::Nothing)
 }

@@ -4,10 +4,11 @@ ghost use Rattle.std.specs.Prelude.{◌≡◌, ◌≤◌, ◌<◌, ◌+◌, ◌*
 ghost use Rattle.std.specs.List.{list_any};
 ghost use Rattle.zs_io.specs.Told.{Told, over};
 ghost use Rattle.zs_ledger.specs.declared.entry.CopyResult.TheVariants.{Missing};
+ghost use Rattle.zs_ledger.specs.Entry.{AreCopies};
 ghost use Rattle.sha2.specs.Sha256.{sha256};
-ghost use Rattle.zscan.specs.Mirror.{start_of, size_of, copy_in, has_sum, IsOn, told_at, told_after, letter, IsChecked, AreRead, IsEntryOf, HaveCause, put_over, all_put_over};
+ghost use Rattle.zscan.specs.Mirror.{start_of, size_of, copy_in, has_sum, IsOn, told_at, told_after, letter, IsChecked, AreRead, IsEntryOf, HaveCause, put_over, all_put_over, FitsOn, AllFit, changed_at, AreRewritten};
+ghost use Rattle.zscan.specs.Plays.{IsLost};
 
-use crate::images::size_at;
 use zs_ids::Item;
 use zs_io::{BayFault, Device};
 use zs_ledger::{CopyResult, Entry};
@@ -20,14 +21,6 @@ fn start_of(item: &Item) -> u64
     ensures fits { result ≤ 512 * 2 ^ 32 }
 {
     512 * u64::from(item.piece.place.sector)
-}
-
-/// The first byte behind an item's copies.
-pub fn end_of(item: &Item) -> u64
-    ensures { result ≡ start_of item.now + size_of item.now }
-{
-    let sectors = item.sectors;
-    start_of(item) + 512 * u64::from(sectors)
 }
 
 /// Reads bytes of a device into the whole buffer.
@@ -45,10 +38,7 @@ pub fn read_device<D: Device>(
     ensures cause { HaveCause (map D.faults devices.old) (map D.faults devices.new) result }
 {
     let device = &mut devices[i];
-    match device.read_at(at, buf) {
-        Ok(()) => Ok(()),
-        Err(fault) => Err(fault),
-    }
+    device.read_at(at, buf)
 }
 
 /// Reads the copy of an item that lies on a device into the buffer, which has just its size, and says whether its
@@ -69,25 +59,20 @@ fn read_copy<D: Device>(
     ensures sizes { map D.size devices.new ≡ map D.size devices.old }
     ensures cause { HaveCause (map D.faults devices.old) (map D.faults devices.new) result }
 {
-    match read_device(devices, i, start_of(item), buf) {
-        Ok(()) => Ok(sum(buf) == item.sum),
-        Err(fault) => Err(fault),
-    }
+    read_device(devices, i, start_of(item), buf)?;
+    Ok(sum(buf) == item.sum)
 }
 
 /// Writes bytes to a device.
 fn write_copy<D: Device>(devices: &mut [D], i: usize, at: u64, bytes: &[u8]) -> Result<(), BayFault>
     requires device { i < length devices.old }
     requires on { at + length bytes.now ≤ slice_index_or (map D.size devices.old) i 0 }
-    ensures told { OnOk result (map D.told devices.new ≡ slice_set (map D.told devices.old) i (option_map (over at bytes.now) (told_at (map D.told devices.old) i))) }
+    ensures told { OnOk result (map D.told devices.new ≡ changed_at (map D.told devices.old) i (option_map (over at bytes.now))) }
     ensures sizes { map D.size devices.new ≡ map D.size devices.old }
     ensures cause { HaveCause (map D.faults devices.old) (map D.faults devices.new) result }
 {
     let device = &mut devices[i];
-    match device.write_at(at, bytes) {
-        Ok(()) => Ok(()),
-        Err(fault) => Err(fault),
-    }
+    device.write_at(at, bytes)
 }
 
 /// Syncs a device.
@@ -98,10 +83,7 @@ fn sync_copy<D: Device>(devices: &mut [D], i: usize) -> Result<(), BayFault>
     ensures cause { HaveCause (map D.faults devices.old) (map D.faults devices.new) result }
 {
     let device = &mut devices[i];
-    match device.sync() {
-        Ok(()) => Ok(()),
-        Err(fault) => Err(fault),
-    }
+    device.sync()
 }
 
 /// Reads copies of an item until one has the item's sum, and says whether one had; the buffer, which has just the
@@ -110,16 +92,14 @@ pub fn read_any<D: Device>(devices: &mut [D], item: &Item, buf: &mut [u8]) -> Re
     requires size { length buf.old ≡ size_of item.now }
     requires on { (k : ℕ) → k < length devices.old → IsOn item.now (slice_index_or (map D.size devices.old) k 0) }
     ensures found { IfOk result (λ found. found ≡ true → sha256 buf.new ≡ item.now.sum) }
-    ensures lost { IfOk result (λ found. found ≡ false → (k : ℕ) → k < length devices.old → Told (told_at (map D.told devices.old) k) (λ bytes. has_sum item.now (copy_in item.now bytes) ≡ false)) }
+    ensures lost { IfOk result (λ found. found ≡ false → IsLost item.now (map D.told devices.old)) }
     ensures told { map D.told devices.new ≡ map D.told devices.old }
     ensures sizes { map D.size devices.new ≡ map D.size devices.old }
     ensures cause { HaveCause (map D.faults devices.old) (map D.faults devices.new) result }
 {
     for i in 0..devices.len() {
-        match read_copy(devices, i, item, buf) {
-            Ok(true) => return Ok(true),
-            Ok(false) => {}
-            Err(fault) => return Err(fault),
+        if read_copy(devices, i, item, buf)? {
+            return Ok(true);
         }
     }
     Ok(false)
@@ -146,15 +126,11 @@ fn keep_copy<D: Device>(
     ensures sizes { map D.size devices.new ≡ map D.size devices.old }
     ensures cause { HaveCause (map D.faults devices.old) (map D.faults devices.new) result }
 {
-    match read_copy(devices, i, item, buf) {
-        Ok(true) => {
-            good.copy_from_slice(buf);
-            goods[i] = true;
-            Ok(())
-        }
-        Ok(false) => Ok(()),
-        Err(fault) => Err(fault),
+    if read_copy(devices, i, item, buf)? {
+        good.copy_from_slice(buf);
+        goods[i] = true;
     }
+    Ok(())
 }
 
 /// Reads every copy.
@@ -175,10 +151,7 @@ fn read_copies<D: Device>(
     ensures cause { HaveCause (map D.faults devices.old) (map D.faults devices.new) result }
 {
     for i in 0..devices.len() {
-        match keep_copy(devices, i, item, goods, good, buf) {
-            Ok(()) => {}
-            Err(fault) => return Err(fault),
-        }
+        keep_copy(devices, i, item, goods, good, buf)?;
     }
     Ok(())
 }
@@ -206,6 +179,7 @@ fn letters(goods: &[bool; 4], any: bool, width: usize) -> [CopyResult; 4]
     requires { width ≤ 4 }
     ensures letters { (k : ℕ) → k < width → slice_index_or result k Missing ≡ letter (slice_index_or goods.now k false) any }
     ensures missing { (k : ℕ) → width ≤ k → slice_index_or result k Missing ≡ Missing }
+    ensures copies { AreCopies width result }
 {
     let mut copies = [CopyResult::Missing; 4];
     for i in 0..width {
@@ -225,7 +199,7 @@ fn rewrite_copy<D: Device>(
     requires device { i < length devices.old }
     requires size { length good.now ≡ size_of item.now }
     requires on { IsOn item.now (slice_index_or (map D.size devices.old) i 0) }
-    ensures told { OnOk result (map D.told devices.new ≡ slice_set (map D.told devices.old) i (told_after (start_of item.now) good.now copy (told_at (map D.told devices.old) i))) }
+    ensures told { OnOk result (map D.told devices.new ≡ changed_at (map D.told devices.old) i (told_after (start_of item.now) good.now copy)) }
     ensures sizes { map D.size devices.new ≡ map D.size devices.old }
     ensures cause { HaveCause (map D.faults devices.old) (map D.faults devices.new) result }
 {
@@ -237,14 +211,8 @@ fn rewrite_copy<D: Device>(
         | CopyResult::Fault
         | CopyResult::Absent => return Ok(()),
     }
-    match write_copy(devices, i, start_of(item), good) {
-        Ok(()) => {}
-        Err(fault) => return Err(fault),
-    }
-    match sync_copy(devices, i) {
-        Ok(()) => Ok(()),
-        Err(fault) => Err(fault),
-    }
+    write_copy(devices, i, start_of(item), good)?;
+    sync_copy(devices, i)
 }
 
 /// Writes the good bytes to each copy that is to be rewritten.
@@ -257,15 +225,12 @@ fn rewrite_copies<D: Device>(
     requires width { length devices.old ≤ 4 }
     requires size { length good.now ≡ size_of item.now }
     requires on { (k : ℕ) → k < length devices.old → IsOn item.now (slice_index_or (map D.size devices.old) k 0) }
-    ensures told { OnOk result ((k : ℕ) → k < length devices.old → told_at (map D.told devices.new) k ≡ told_after (start_of item.now) good.now (slice_index_or copies.now k Missing) (told_at (map D.told devices.old) k)) }
+    ensures told { OnOk result (AreRewritten item.now (length devices.old) good.now copies.now (map D.told devices.old) (map D.told devices.new)) }
     ensures sizes { map D.size devices.new ≡ map D.size devices.old }
     ensures cause { HaveCause (map D.faults devices.old) (map D.faults devices.new) result }
 {
     for i in 0..devices.len() {
-        match rewrite_copy(devices, i, item, copies[i], good) {
-            Ok(()) => {}
-            Err(fault) => return Err(fault),
-        }
+        rewrite_copy(devices, i, item, copies[i], good)?;
     }
     Ok(())
 }
@@ -284,77 +249,62 @@ pub fn check<D: Device>(
     requires on { (k : ℕ) → k < length devices.old → IsOn item.now (slice_index_or (map D.size devices.old) k 0) }
     ensures checked { IfOk result (λ entry. IsChecked item.now (length devices.old) (map D.told devices.old) (map D.told devices.new) entry.copies) }
     ensures entry { IfOk result (λ entry. IsEntryOf item.now entry) }
+    ensures copies { IfOk result (λ entry. AreCopies (length devices.old) entry.copies) }
     ensures sizes { map D.size devices.new ≡ map D.size devices.old }
     ensures cause { HaveCause (map D.faults devices.old) (map D.faults devices.new) result }
 {
     let mut goods = [false; 4];
-    match read_copies(devices, item, &mut goods, good, buf) {
-        Ok(()) => {}
-        Err(fault) => return Err(fault),
-    }
+    read_copies(devices, item, &mut goods, good, buf)?;
     let copies = letters(&goods, has_good(&goods), devices.len());
-    match rewrite_copies(devices, item, &copies, good) {
-        Ok(()) => Ok(Entry {
-            piece: item.piece,
-            sectors: item.sectors,
-            sum: item.sum,
-            copies,
-            marks: [u64::MAX; 4],
-        }),
-        Err(fault) => Err(fault),
-    }
+    rewrite_copies(devices, item, &copies, good)?;
+    Ok(Entry {
+        piece: item.piece,
+        sectors: item.sectors,
+        sum: item.sum,
+        copies,
+        marks: [u64::MAX; 4],
+    })
 }
 
 /// Writes bytes to every device.
 fn write_each<D: Device>(devices: &mut [D], at: u64, bytes: &[u8]) -> Result<(), BayFault>
+    requires on { (k : ℕ) → k < length devices.old → at + length bytes.now ≤ slice_index_or (map D.size devices.old) k 0 }
     ensures told { OnOk result (map D.told devices.new ≡ map (option_map (over at bytes.now)) (map D.told devices.old)) }
     ensures sizes { map D.size devices.new ≡ map D.size devices.old }
     ensures cause { HaveCause (map D.faults devices.old) (map D.faults devices.new) result }
 {
     for i in 0..devices.len() {
-        let size = size_at(devices, i);
-        if size < at || size - at < bytes.len() as u64 {
-            return Err(BayFault::Memory);
-        }
-        match write_copy(devices, i, at, bytes) {
-            Ok(()) => {}
-            Err(fault) => return Err(fault),
-        }
+        write_copy(devices, i, at, bytes)?;
     }
     Ok(())
 }
 
 /// Syncs every device.
 fn sync_each<D: Device>(devices: &mut [D]) -> Result<(), BayFault>
-    ensures told { OnOk result (map D.told devices.new ≡ map D.told devices.old) }
+    ensures told { map D.told devices.new ≡ map D.told devices.old }
     ensures sizes { map D.size devices.new ≡ map D.size devices.old }
     ensures cause { HaveCause (map D.faults devices.old) (map D.faults devices.new) result }
 {
     for i in 0..devices.len() {
-        match sync_copy(devices, i) {
-            Ok(()) => {}
-            Err(fault) => return Err(fault),
-        }
+        sync_copy(devices, i)?;
     }
     Ok(())
 }
 
 /// Writes a block to every device.
 fn put_block<D: Device>(devices: &mut [D], block: &StagedBlock) -> Result<(), BayFault>
+    requires on { (k : ℕ) → k < length devices.old → FitsOn block.now (slice_index_or (map D.size devices.old) k 0) }
     ensures told { OnOk result (map D.told devices.new ≡ map (option_map (put_over block.now)) (map D.told devices.old)) }
     ensures sizes { map D.size devices.new ≡ map D.size devices.old }
     ensures cause { HaveCause (map D.faults devices.old) (map D.faults devices.new) result }
 {
     let at = 512 * u64::from(block.bp.places[0].sector);
-    match write_each(devices, at, block.bytes.as_slice()) {
-        Ok(()) => Ok(()),
-        Err(fault) => Err(fault),
-    }
+    write_each(devices, at, block.bytes.as_slice())
 }
 
-/// Writes each block to every device, in order, and then syncs each device once. That a pool's blocks lie on its devices
-/// is tested here, and not proved yet.
+/// Writes each block to every device, in order, and then syncs each device once. Each block lies on each of the devices.
 pub fn put_blocks<D: Device>(devices: &mut [D], blocks: &[StagedBlock]) -> Result<(), BayFault>
+    requires on { AllFit blocks.now (map D.size devices.old) }
     ensures told { OnOk result (map D.told devices.new ≡ map (option_map (all_put_over blocks.now)) (map D.told devices.old)) }
     ensures sizes { map D.size devices.new ≡ map D.size devices.old }
     ensures cause { HaveCause (map D.faults devices.old) (map D.faults devices.new) result }
@@ -363,13 +313,7 @@ pub fn put_blocks<D: Device>(devices: &mut [D], blocks: &[StagedBlock]) -> Resul
         return Ok(());
     }
     for block in blocks {
-        match put_block(devices, block) {
-            Ok(()) => {}
-            Err(fault) => return Err(fault),
-        }
+        put_block(devices, block)?;
     }
-    match sync_each(devices) {
-        Ok(()) => Ok(()),
-        Err(fault) => Err(fault),
-    }
+    sync_each(devices)
 }

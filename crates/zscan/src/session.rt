@@ -10,9 +10,10 @@ ghost use Rattle.zscan.specs.Mirror.{HaveCause, SomeRose};
 ghost use Rattle.zscan.specs.Images.{AreFresh, HasFailed};
 ghost use Rattle.zs_script.specs.Lines.{IsFirst, IsLater, IsScript};
 ghost use Rattle.zs_core.specs.Commands.{commands_of};
+ghost use Rattle.zscan.specs.Plays.{Went, Plays, IsMade, AreDevicesOf};
 ghost use Rattle.zscan.specs.Session.{IsReady, GoesOn, GoesPart, AreFirst, commands_in, HasReason, HasSinkReason, IsFitFor, IsUnfitFor, AreFitFor, AreUnfitFor};
-ghost use Rattle.zscan.specs.Puts.{Puts, PutsPart, PutsRefusal, refused_line};
-ghost use Rattle.zscan.specs.Ending.{IsSessionStatus, history_in, devices_in};
+ghost use Rattle.zscan.specs.Puts.{Puts, PutsPart, PutsOn, PutsPartOn, PutsRefusal, refused_line};
+ghost use Rattle.zscan.specs.Ending.{IsSessionStatus, history_in, devices_in, KeepsImages};
 
 use crate::batches::BLOCK_BYTES;
 use crate::finishing::commit;
@@ -90,14 +91,15 @@ fn take_line<D: Device, K: Sink>(
 ) -> Result<(), Stop>
     requires later { IsLater line.now.command }
     requires ready { IsReady pool.old }
-    requires width { length devices.old ≤ 4 }
+    requires devices { AreDevicesOf pool.old.core.shape (map D.size devices.old) }
     requires good { length good.old ≡ 131072 }
     requires buf { length buf.old ≡ 131072 }
     ensures ready { OnOk result (IsReady pool.new) }
-    ensures goes_on { OnOk result (GoesOn pool.old.history pool.new.history (line.now.command ∷ [])) }
+    ensures goes_on { OnOk result (Went pool.old pool.new (map D.told devices.old) (map D.told devices.new) (line.now.command ∷ [])) }
     ensures went_on { OnErr result (GoesPart pool.old.history pool.new.history (line.now.command ∷ [])) }
-    ensures told { OnOk result ((start : Option (List ℕ)) → K.told out.old ≡ option_map (λ bytes. bytes ++ text_of pool.old.history) start → K.told out.new ≡ option_map (λ bytes. bytes ++ text_of pool.new.history) start) }
-    ensures part { OnErr result ((start : Option (List ℕ)) → K.told out.old ≡ option_map (λ bytes. bytes ++ text_of pool.old.history) start → PutsPart (text_of pool.new.history) start (K.told out.new)) }
+    ensures told { OnOk result (PutsOn (text_of pool.old.history) (text_of pool.new.history) (K.told out.old) (K.told out.new)) }
+    ensures part { OnErr result (PutsPartOn (text_of pool.old.history) (text_of pool.new.history) (K.told out.old) (K.told out.new)) }
+    ensures whole { IsErrOf result Stop.Device → PutsOn (text_of pool.old.history) (text_of pool.new.history) (K.told out.old) (K.told out.new) }
     ensures sizes { map D.size devices.new ≡ map D.size devices.old }
     ensures cause { HasReason (map D.faults devices.old) (map D.faults devices.new) (K.faults out.old) (K.faults out.new) result }
 {
@@ -127,13 +129,15 @@ fn run_lines<D: Device, K: Sink>(
 ) -> Result<(), Stop>
     requires later { All (λ line. IsLater line.command) lines.now }
     requires ready { IsReady pool.old }
-    requires width { length devices.old ≤ 4 }
+    requires devices { AreDevicesOf pool.old.core.shape (map D.size devices.old) }
     requires good { length good.old ≡ 131072 }
     requires buf { length buf.old ≡ 131072 }
-    ensures goes_on { OnOk result (GoesOn pool.old.history pool.new.history (commands_in lines.now)) }
+    ensures ready { OnOk result (IsReady pool.new) }
+    ensures goes_on { OnOk result (Went pool.old pool.new (map D.told devices.old) (map D.told devices.new) (commands_in lines.now)) }
     ensures went_on { OnErr result (GoesPart pool.old.history pool.new.history (commands_in lines.now)) }
     ensures told { OnOk result (K.told out.new ≡ option_map (λ bytes. bytes ++ text_of pool.new.history) (K.told out.old)) }
     ensures part { PutsPart (text_of pool.new.history) (K.told out.old) (K.told out.new) }
+    ensures whole { IsErrOf result Stop.Device → Puts (text_of pool.new.history) (K.told out.old) (K.told out.new) }
     ensures sizes { map D.size devices.new ≡ map D.size devices.old }
     ensures cause { HasReason (map D.faults devices.old) (map D.faults devices.new) (K.faults out.old) (K.faults out.new) result }
 {
@@ -160,13 +164,14 @@ fn run_pool<D: Device, K: Sink>(
     out: &mut K,
 ) -> Result<(), Stop>
     requires later { All (λ line. IsLater line.command) lines.now }
-    requires writing { pool.old.core.state.stage ≡ Stage.Writing }
-    requires up { pool.old.core.state.suspended ≡ false }
-    requires width { length devices.old ≤ 4 }
-    ensures goes_on { OnOk result (GoesOn pool.old.history pool.new.history (commands_in lines.now)) }
+    requires made { IsMade pool.old }
+    requires devices { AreDevicesOf pool.old.core.shape (map D.size devices.old) }
+    ensures ready { OnOk result (IsReady pool.new) }
+    ensures goes_on { OnOk result (Went pool.old pool.new (map D.told devices.old) (map D.told devices.new) (commands_in lines.now)) }
     ensures went_on { OnErr result (GoesPart pool.old.history pool.new.history (commands_in lines.now)) }
     ensures told { OnOk result (K.told out.new ≡ option_map (λ bytes. bytes ++ text_of pool.new.history) (K.told out.old)) }
     ensures part { PutsPart (text_of pool.new.history) (K.told out.old) (K.told out.new) }
+    ensures whole { IsErrOf result Stop.Device → Puts (text_of pool.new.history) (K.told out.old) (K.told out.new) }
     ensures sizes { map D.size devices.new ≡ map D.size devices.old }
     ensures cause { HasReason (map D.faults devices.old) (map D.faults devices.new) (K.faults out.old) (K.faults out.new) result }
 {
@@ -194,9 +199,8 @@ fn make_pool<D: Device>(
 ) -> Result<Pool, ImageFault>
     requires first { IsFirst command.now }
     ensures made { IfOk result (λ pool. commands_of pool.history ≡ command.now ∷ []) }
-    ensures writing { IfOk result (λ pool. pool.core.state.stage ≡ Stage.Writing) }
-    ensures up { IfOk result (λ pool. pool.core.state.suspended ≡ false) }
-    ensures width { OnOk result (length devices.old ≤ 4) }
+    ensures is_made { IfOk result IsMade }
+    ensures devices { IfOk result (λ pool. AreDevicesOf pool.core.shape (map D.size devices.old)) }
     ensures fit { OnOk result (IsFitFor command.now (map D.size devices.old) (map D.told devices.old)) }
     ensures unfit { (fault : Refusal) → IsErrOf result (ImageFault.Unfit fault) → IsUnfitFor command.now (map D.size devices.old) (map D.told devices.old) fault }
     ensures unread { IsErrOf result ImageFault.Unread → SomeRose (map D.faults devices.old) (map D.faults devices.new) }
@@ -292,9 +296,14 @@ pub fn step_session<D: Device + Drop, K: Sink>(
     ensures lines { result.status ≡ 0 → commands_of (history_in result.session) ≡ commands_in lines.now }
     ensures lines_cut { IsSome result.session → AreFirst (commands_of (history_in result.session)) (commands_in lines.now) }
     ensures session { result.status ≡ 0 → IsSome result.session }
+    ensures idle { result.status ≡ 0 → IfSome result.session (λ s. IsReady s.pool) }
+    ensures plays { result.status ≡ 0 → IfSome result.session (λ s. Plays s.pool.core.shape.width s.pool.history (map D.told devices.items) (map D.told s.devices.items)) }
+    ensures images { KeepsImages D.size D.told devices.items result }
+    ensures refused { result.status ≡ 3 → result.session ≡ None }
     ensures history { IfSome result.session (λ s. IsHistory s.pool.history s.pool.core.state) }
-    ensures safe { IfSome result.session (λ s. s.pool.core.state.suspended ≡ false → IsSafe s.pool.core) }
+    ensures safe { IfSome result.session (λ s. IsSafe s.pool.core) }
     ensures part { IsSome result.session → PutsPart (text_of (history_in result.session)) (K.told out.old) (K.told out.new) }
+    ensures whole { result.status ≡ 4 → IsSome result.session → Puts (text_of (history_in result.session)) (K.told out.old) (K.told out.new) }
     ensures fit { IsSome result.session → AreFitFor lines.now (map D.size devices.items) (map D.told devices.items) }
     ensures unfit { result.status ≡ 3 → (fault : Refusal) × AreUnfitFor lines.now (map D.size result.devices.items) (map D.told result.devices.items) fault × Puts (refused_line fault) (K.told out.old) (K.told out.new) }
     ensures unread { result.status ≡ 4 → result.session ≡ None → HasFailed (map D.faults result.devices.items) × Puts (refused_line Refusal.NotBlank) (K.told out.old) (K.told out.new) }
@@ -357,19 +366,22 @@ fn run_session<D: Device + Drop, K: Sink>(
     out: &mut K,
 ) -> Ended<D>
     requires later { All (λ line. IsLater line.command) lines.now }
-    requires writing { session.pool.core.state.stage ≡ Stage.Writing }
-    requires up { session.pool.core.state.suspended ≡ false }
-    requires width { length session.devices.items ≤ 4 }
+    requires made { IsMade session.pool }
+    requires devices { AreDevicesOf session.pool.core.shape (map D.size session.devices.items) }
     requires fresh { AreFresh (map D.faults session.devices.items) }
     ensures status { IsSessionStatus result.status }
     ensures ran { result.status ≢ 3 }
     ensures text { result.status ≡ 0 → K.told out.new ≡ option_map (λ bytes. bytes ++ text_of (history_in result.session)) (K.told out.old) }
     ensures part { PutsPart (text_of (history_in result.session)) (K.told out.old) (K.told out.new) }
+    ensures whole { result.status ≡ 4 → Puts (text_of (history_in result.session)) (K.told out.old) (K.told out.new) }
     ensures goes_on { result.status ≡ 0 → GoesOn session.pool.history (history_in result.session) (commands_in lines.now) }
+    ensures plays { result.status ≡ 0 → IfSome result.session (λ s. Went session.pool s.pool (map D.told session.devices.items) (map D.told s.devices.items) (commands_in lines.now)) }
     ensures went_on { GoesPart session.pool.history (history_in result.session) (commands_in lines.now) }
     ensures session { IsSome result.session }
+    ensures idle { result.status ≡ 0 → IfSome result.session (λ s. IsReady s.pool) }
+    ensures images { KeepsImages D.size D.told session.devices.items result }
     ensures history { IfSome result.session (λ s. IsHistory s.pool.history s.pool.core.state) }
-    ensures safe { IfSome result.session (λ s. s.pool.core.state.suspended ≡ false → IsSafe s.pool.core) }
+    ensures safe { IfSome result.session (λ s. IsSafe s.pool.core) }
     ensures failed { result.status ≡ 4 → HasFailed (map D.faults (devices_in result.session result.devices.items)) }
     ensures unfailed { result.status ≢ 4 → result.status ≢ 6 → result.status ≢ 7 → AreFresh (map D.faults (devices_in result.session result.devices.items)) }
     ensures sink { result.status ≡ 6 → Rose (K.faults out.old) (K.faults out.new) }

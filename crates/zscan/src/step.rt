@@ -1,23 +1,19 @@
 //! The top call: a script from a source, run over the images of a bay, with its replies put into a sink.
 
-ghost use Rattle.std.specs.Prelude.{◌≡◌, ◌≢◌, ◌≤◌, ◌<◌, ◌+◌, ◌-◌, ◌++◌, [], ◌⊎◌, ℕ, List, Option, None, Some, true, false, length, map, drop, take, option_map, OnOk, OnErr, IfOk, IfSome, IfNone, IsSome, IsErrOf, string_bytes, codes};
+ghost use Rattle.std.specs.Prelude.{◌≡◌, ◌≢◌, ◌≤◌, ◌<◌, ◌-◌, [], ◌⊎◌, None, true, false, length, map, OnOk, IfOk, IsErrOf, string_bytes};
 ghost use Rattle.std.specs.List.{list_all};
-ghost use Rattle.zs_core.specs.History.{text_of, IsHistory};
-ghost use Rattle.zs_core.specs.Safe.{IsSafe};
 ghost use Rattle.zs_io.specs.Faults.{Rose};
 ghost use Rattle.zs_io.specs.Told.{Told};
-ghost use Rattle.zscan.specs.Images.{AreFresh, HasFailed};
-ghost use Rattle.zs_core.specs.Commands.{commands_of};
-ghost use Rattle.zscan.specs.Session.{AreFitFor, AreUnfitFor, AreFirst, commands_in};
-ghost use Rattle.zscan.specs.Ending.{history_in, devices_in};
-ghost use Rattle.zscan.specs.Puts.{Puts, PutsPart, PutsRefusal, fault_line, refused_line};
-ghost use Rattle.zscan.specs.Step.{is_image, are_images, is_step, read_of, has_fault, fault_text, lines_in};
+ghost use Rattle.zscan.specs.Ending.{devices_in};
+ghost use Rattle.zscan.specs.Puts.{Puts, PutsPart, fault_line};
+ghost use Rattle.zscan.specs.Step.{is_image, are_images, is_step, names_in, read_of};
+ghost use Rattle.zscan.specs.Runs.{EndsInUsage, EndsInFault, IsUntouched, HasAskedFor, EndsRefused, EndsUnmade, HandsBack, EndsInSession, RunsLines, PutsHistory, CountsDevices, CountsStreams};
 
 use crate::images::fetch_images;
 use crate::session::{Ended, end_with, step_session};
 use std::alloc::{AllocError, Global};
 use zs_io::{Bay, BayFault, Sink, Source};
-use zs_script::{Refusal, ScriptFault, Why, parse};
+use zs_script::{ScriptFault, Why, parse};
 
 /// One more than the most bytes of a script.
 const READ_BYTES: usize = 16_777_217;
@@ -169,34 +165,18 @@ pub fn run_step<B: Bay, S: Source, K: Sink>(
     src: &mut S,
     out: &mut K,
 ) -> Ended<B::Dev>
-    ensures usage_only { result.status ≡ 1 → is_step words.now ≡ false }
-    ensures usage { is_step words.now ≡ false → (result.status ≡ 1) ⊎ (result.status ≡ 6) }
-    ensures fault_only { result.status ≡ 2 → Told (S.left src.old) (λ script. has_fault script ≡ true) }
-    ensures no_fault { (result.status ≡ 0) ⊎ ((result.status ≡ 3) ⊎ (result.status ≡ 4)) → Told (S.left src.old) (λ script. has_fault script ≡ false) }
-    ensures usage_line { result.status ≡ 1 → Puts (codes "usage\n") (K.told out.old) (K.told out.new) }
-    ensures usage_cut { is_step words.now ≡ false → PutsPart (codes "usage\n") (K.told out.old) (K.told out.new) }
-    ensures fault_line { result.status ≡ 2 → Told (S.left src.old) (λ script. Puts (fault_text script) (K.told out.old) (K.told out.new)) }
-    ensures fault_cut { is_step words.now ≡ true → Told (S.left src.old) (λ script. has_fault script ≡ true → PutsPart (fault_text script) (K.told out.old) (K.told out.new)) }
-    ensures unfit { result.status ≡ 3 → Told (S.left src.old) (λ script. (fault : Refusal) × AreUnfitFor (lines_in script) (map B.Dev.size result.devices.items) (map B.Dev.told result.devices.items) fault × Puts (refused_line fault) (K.told out.old) (K.told out.new)) }
-    ensures unread { result.status ≡ 4 → result.session ≡ None → (Rose (B.faults bay.old) (B.faults bay.new) × (K.told out.new ≡ K.told out.old)) ⊎ (HasFailed (map B.Dev.faults result.devices.items) × Puts (refused_line Refusal.NotBlank) (K.told out.old) (K.told out.new)) }
-    ensures refused_cut { is_step words.now ≡ true → result.session ≡ None → Told (S.left src.old) (λ script. has_fault script ≡ false → PutsRefusal (K.told out.old) (K.told out.new)) }
-    ensures silent { (result.status ≡ 5) ⊎ ((result.status ≡ 7) × (result.session ≡ None)) → K.told out.new ≡ K.told out.old }
-    ensures fit { IsSome result.session → Told (S.left src.old) (λ script. Told (B.left bay.old) (λ images. AreFitFor (lines_in script) (map B.Dev.size (take (length words.now - 1) images)) (map B.Dev.told (take (length words.now - 1) images)))) }
-    ensures failed { result.status ≡ 4 → Rose (B.faults bay.old) (B.faults bay.new) ⊎ HasFailed (map B.Dev.faults (devices_in result.session result.devices.items)) }
-    ensures unfailed { result.status ≢ 4 → B.faults bay.new ≡ B.faults bay.old }
-    ensures devices_unfailed { result.status ≢ 4 → result.status ≢ 6 → result.status ≢ 7 → AreFresh (map B.Dev.faults (devices_in result.session result.devices.items)) }
-    ensures source { result.status ≡ 5 → Rose (S.faults src.old) (S.faults src.new) }
-    ensures source_kept { result.status ≢ 5 → S.faults src.new ≡ S.faults src.old }
-    ensures sink { result.status ≡ 6 → Rose (K.faults out.old) (K.faults out.new) }
-    ensures sink_kept { result.status ≢ 6 → K.faults out.new ≡ K.faults out.old }
-    ensures text { result.status ≡ 0 → K.told out.new ≡ option_map (λ bytes. bytes ++ text_of (history_in result.session)) (K.told out.old) }
-    ensures part { IsSome result.session → PutsPart (text_of (history_in result.session)) (K.told out.old) (K.told out.new) }
-    ensures lines { result.status ≡ 0 → Told (S.left src.old) (λ script. commands_of (history_in result.session) ≡ commands_in (lines_in script)) }
-    ensures lines_cut { IsSome result.session → Told (S.left src.old) (λ script. AreFirst (commands_of (history_in result.session)) (commands_in (lines_in script))) }
-    ensures session { result.status ≡ 0 → IsSome result.session }
-    ensures statuses { result.status ≤ 7 }
-    ensures history { IfSome result.session (λ s. IsHistory s.pool.history s.pool.core.state) }
-    ensures safe { IfSome result.session (λ s. s.pool.core.state.suspended ≡ false → IsSafe s.pool.core) }
+    ensures usage { EndsInUsage (is_step words.now) result.status (K.told out.old) (K.told out.new) }
+    ensures fault { EndsInFault (is_step words.now) (S.left src.old) result.status (K.told out.old) (K.told out.new) }
+    ensures untouched { IsUntouched (is_step words.now) (S.left src.old) result.status bay.old bay.new }
+    ensures asked { HasAskedFor (names_in words.now) (length words.now - 1) (B.asked bay.old) (B.asked bay.new) result }
+    ensures refused { EndsRefused (is_step words.now) (S.left src.old) B.Dev.size B.Dev.told (K.told out.old) (K.told out.new) result }
+    ensures unmade { EndsUnmade B.Dev.faults (length words.now - 1) (B.faults bay.old) (B.faults bay.new) (K.told out.old) (K.told out.new) result }
+    ensures images { HandsBack (S.left src.old) B.Dev.size B.Dev.told (length words.now - 1) (B.left bay.old) result }
+    ensures session { EndsInSession result }
+    ensures lines { RunsLines (S.left src.old) result }
+    ensures text { PutsHistory (K.told out.old) (K.told out.new) result }
+    ensures devices { CountsDevices result.status (B.faults bay.old) (B.faults bay.new) (map B.Dev.faults (devices_in result.session result.devices.items)) }
+    ensures streams { CountsStreams result.status (S.faults src.old) (S.faults src.new) (K.faults out.old) (K.faults out.new) }
 {
     let mut devices = Vec::new(alloc);
     if !is_step(words) {

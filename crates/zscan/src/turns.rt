@@ -3,11 +3,13 @@
 ghost use Rattle.std.specs.Prelude.{◌≡◌, ◌≢◌, ◌≤◌, ◌<◌, ◌+◌, ◌∷◌, [], ℕ, OnOk, OnErr, IfOk, Ok, Err};
 ghost use Rattle.zs_phys.specs.Turn.{HasNoWork};
 ghost use Rattle.zs_scan.specs.Walks.{IsFull};
-ghost use Rattle.zs_walk.specs.Left.{turns_left};
 ghost use Rattle.zs_core.specs.Line.{IsWhy, waiting_counts};
 ghost use Rattle.zs_core.specs.Told.{AreTurns, line_steps};
+ghost use Rattle.zs_core.specs.History.{text_of};
 ghost use Rattle.zscan.specs.Session.{IsUp, IsReady, GoesOn};
+ghost use Rattle.zscan.specs.Plays.{WentAlone};
 ghost use Rattle.zscan.specs.Batches.{GoesOnScanning};
+ghost use Rattle.zscan.specs.Finish.{TurnsTo, walk_left};
 
 use crate::lines::end_line;
 use std::alloc::{AllocError, Global};
@@ -44,14 +46,16 @@ fn outcome_of(turn: Turn) -> Turned
 pub fn turn(pool: &mut Pool, by: u8) -> Result<Turned, BayFault>
     requires up { IsUp pool.old }
     ensures up { OnOk result (IsUp pool.new) }
-    ensures goes_on { OnOk result (GoesOn pool.old.history pool.new.history []) }
+    ensures goes_on { OnOk result (WentAlone pool.old pool.new []) }
     ensures made { result ≡ Ok Turned.Made → (n : ℕ) → AreTurns (line_steps pool.old.history) n → AreTurns (line_steps pool.new.history) (n + 1) }
-    ensures none { IfOk result (λ turned. turned ≢ Turned.Made → (n : ℕ) → AreTurns (line_steps pool.old.history) n → AreTurns (line_steps pool.new.history) n) }
+    ensures none { IfOk result (λ made. made ≢ Turned.Made → (n : ℕ) → AreTurns (line_steps pool.old.history) n → AreTurns (line_steps pool.new.history) n) }
     ensures scan { OnOk result (GoesOnScanning pool.old.core pool.new.core) }
     ensures flight { OnOk result (pool.new.core.scan.flight ≡ pool.old.core.scan.flight) }
-    ensures fewer { result ≡ Ok Turned.Made → turns_left pool.new.core.state.graph pool.new.core.scan.run < turns_left pool.old.core.state.graph pool.old.core.scan.run }
+    ensures fewer { result ≡ Ok Turned.Made → walk_left pool.new.core < walk_left pool.old.core }
     ensures nothing { result ≡ Ok Turned.Nothing → HasNoWork pool.new.core.scan.run × (pool.new.core ≡ pool.old.core) }
     ensures full { result ≡ Ok Turned.Full → IsFull pool.new.core.state.graph pool.new.core.scan × (pool.new.core ≡ pool.old.core) }
+    ensures phase { IfOk result (λ turned. TurnsTo turned pool.old.history pool.new.history) }
+    ensures silent { text_of pool.new.history ≡ text_of pool.old.history }
     ensures memory { OnErr result (result ≡ Err BayFault.Memory) }
     ensures went_on { OnErr result (GoesOn pool.old.history pool.new.history []) }
 {
@@ -67,7 +71,7 @@ pub fn turn(pool: &mut Pool, by: u8) -> Result<Turned, BayFault>
 fn make_turns(pool: &mut Pool, by: u8, most: u32) -> Result<(u32, WalkEnd), BayFault>
     requires ready { IsReady pool.old }
     ensures up { OnOk result (IsUp pool.new) }
-    ensures goes_on { OnOk result (GoesOn pool.old.history pool.new.history []) }
+    ensures goes_on { OnOk result (WentAlone pool.old pool.new []) }
     ensures made { IfOk result (λ walked. AreTurns (line_steps pool.new.history) walked.0) }
     ensures few { IfOk result (λ walked. walked.0 ≤ most) }
     ensures why { IfOk result (λ walked. IsWhy pool.new.core most walked.0 walked.1) }
@@ -75,11 +79,10 @@ fn make_turns(pool: &mut Pool, by: u8, most: u32) -> Result<(u32, WalkEnd), BayF
     ensures went_on { OnErr result (GoesOn pool.old.history pool.new.history []) }
 {
     for made in 0..most {
-        match turn(pool, by) {
-            Ok(Turned::Made) => {}
-            Ok(Turned::Nothing) => return Ok((made, WalkEnd::Nothing)),
-            Ok(Turned::Full) => return Ok((made, WalkEnd::Full)),
-            Err(fault) => return Err(fault),
+        match turn(pool, by)? {
+            Turned::Made => {}
+            Turned::Nothing => return Ok((made, WalkEnd::Nothing)),
+            Turned::Full => return Ok((made, WalkEnd::Full)),
         }
     }
     Ok((most, WalkEnd::More))
@@ -97,14 +100,11 @@ fn waiting_counts(alloc: Global, scan: &Scan) -> Result<Seq<u32>, AllocError>
 pub fn walk(alloc: Global, pool: &mut Pool, by: u8, turns: u32) -> Result<(), BayFault>
     requires ready { IsReady pool.old }
     ensures ready { OnOk result (IsReady pool.new) }
-    ensures goes_on { OnOk result (GoesOn pool.old.history pool.new.history (Command.Walk turns ∷ [])) }
+    ensures goes_on { OnOk result (WentAlone pool.old pool.new (Command.Walk turns ∷ [])) }
     ensures memory { OnErr result (result ≡ Err BayFault.Memory) }
     ensures went_on { OnErr result (GoesOn pool.old.history pool.new.history []) }
 {
-    let (made, why) = match make_turns(pool, by, turns) {
-        Ok(walked) => walked,
-        Err(fault) => return Err(fault),
-    };
+    let (made, why) = make_turns(pool, by, turns)?;
     let Ok(waiting) = waiting_counts(alloc, pool.scan()) else {
         return Err(BayFault::Memory);
     };

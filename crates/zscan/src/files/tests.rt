@@ -16,6 +16,31 @@ impl Read for Broken {
     }
 }
 
+/// A reader into whose first reads a signal breaks.
+#[derive(Drop)]
+struct Interrupted {
+    left: u8,
+}
+
+impl Read for Interrupted {
+    fn read(&mut self, buf: &mut [u8]) -> io::Result<usize> {
+        if self.left == 0 {
+            return b"abc".as_slice().read(buf);
+        }
+        self.left -= 1;
+        Err(Error::from(ErrorKind::Interrupted))
+    }
+}
+
+#[test]
+fn an_input_reads_again_where_a_signal_breaks_in(rt: HostRuntime) {
+    let mut buf = [0; 4];
+    let mut input = Input::new(Interrupted { left: 2 });
+    assert_eq!(rt; input.read(&mut buf), Ok(3));
+    assert_eq!(rt; buf, *b"abc\0");
+    assert_eq!(rt; input.faults, 0);
+}
+
 #[test]
 fn an_input_gives_what_is_read_and_counts_a_failure(rt: HostRuntime) {
     let mut buf = [0; 4];
@@ -69,6 +94,25 @@ fn an_image_file_is_read_and_written_in_place_and_counts_a_failure(
     fs::write(&rt, path.as_path(), b"abc")?;
     assert_eq!(rt; image.read_at(3, &mut buf), Err(BayFault::Failed));
     assert_eq!(rt; image.faults, 1);
+    fs::remove_file(&rt, path.as_path())?;
+    Ok(())
+}
+
+#[test]
+fn a_file_is_one_image_at_a_time(rt: HostRuntime) -> Result<(), Fail> {
+    let alloc = rt.alloc();
+    let name = format!(in alloc; "zscan-test-twice-{}", process::id(rt.process()))?;
+    let path = env::temp_dir(&rt)?.join(alloc, name.as_str())?;
+    fs::write(&rt, path.as_path(), b"abc")?;
+    let mut files = ImageFiles::new(rt);
+    let name = path.as_path().to_str().unwrap_or("");
+    let Ok(image) = files.fetch(name) else {
+        return Err(Fail::new("the file is not opened"));
+    };
+    assert!(rt; files.fetch(name).is_err());
+    assert_eq!(rt; files.faults, 1);
+    drop(image);
+    assert!(rt; files.fetch(name).is_ok());
     fs::remove_file(&rt, path.as_path())?;
     Ok(())
 }

@@ -46,6 +46,10 @@ impl Device for Hollow {
 
     ghost images_fit = { λ device c left. absurd left };
 
+    ghost images_are_bytes = { λ device c left. absurd left };
+
+    ghost past_is_bytes = { λ device t c left. absurd left };
+
     ghost counts_now = { λ device t c later left. left };
 
     ghost only_now = { λ device c left. left };
@@ -68,6 +72,8 @@ impl Bay for HollowBay {
     type Dev = Hollow;
 
     ghost left = { λ _. None };
+
+    ghost asked = { λ _. None };
 
     ghost faults = { λ _. 0 };
 
@@ -133,6 +139,10 @@ impl Device for Shaky {
 
     ghost images_fit = { λ device c left. absurd left };
 
+    ghost images_are_bytes = { λ device c left. absurd left };
+
+    ghost past_is_bytes = { λ device t c left. absurd left };
+
     ghost counts_now = { λ device t c later left. left };
 
     ghost only_now = { λ device c left. left };
@@ -156,6 +166,8 @@ impl Bay for ShakyBay {
     type Dev = Shaky;
 
     ghost left = { λ _. None };
+
+    ghost asked = { λ _. None };
 
     ghost faults = { λ _. 0 };
 

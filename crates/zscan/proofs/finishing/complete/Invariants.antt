@@ -1,18 +1,22 @@
-use Rattle.std.proofs.Common.{◌≡◌, ◌+◌, [], min, map, length}
+use Rattle.std.proofs.Common.{◌≡◌, [], map}
 use Rattle.zs_phys.specs.Turn.{IsWalking}
-use Rattle.zs_walk.specs.Left.{turns_left}
-use Rattle.zscan.specs.Session.{IsUp, GoesOn}
+use Rattle.zs_core.specs.History.{text_of}
+use Rattle.zscan.specs.Session.{IsUp}
+use Rattle.zscan.specs.Plays.{Went}
+use Rattle.zscan.specs.Finish.{MayWalk, phase_at, finish_left}
 use Rattle.zscan.proofs.finishing.complete.Given as goal
 
-abbrev pub invariant-loop-fault : goal.invariant-loop-fault
-invariant-loop-fault g l = record {
+abbrev pub invariant-loop : goal.invariant-loop
+invariant-loop g l = record {
   up : IsUp l.pool;
-  goes_on : GoesOn l.initial.pool.history l.pool.history [];
+  goes_on : Went l.initial.pool l.pool (map g.D.Device.told l.initial.devices) (map g.D.Device.told l.devices) [];
+  silent : text_of l.pool.history ≡ text_of l.initial.pool.history;
   runs : IsWalking l.pool.core.scan.run;
   landed : l.pool.core.scan.flight ≡ [];
+  phase : MayWalk (phase_at l.pool.history);
   sizes : map g.D.Device.size l.devices ≡ map g.D.Device.size l.initial.devices;
   counts : map g.D.Device.faults l.devices ≡ map g.D.Device.faults l.initial.devices;
 }
 
-abbrev pub decreases-loop-fault : goal.decreases-loop-fault
-decreases-loop-fault g l = turns_left l.pool.core.state.graph l.pool.core.scan.run + min 1 (length l.pool.core.scan.waiting)
+abbrev pub decreases-loop : goal.decreases-loop
+decreases-loop g l = finish_left l.pool.core

@@ -1,16 +1,22 @@
 use Rattle.std.proofs.Common.{◌≡◌, [], map, length}
 use Rattle.zs_phys.specs.Turn.{IsWalking}
-use Rattle.zscan.specs.Session.{IsUp, GoesOn}
+use Rattle.zs_core.specs.Finishing.Phase.{landing}
+use Rattle.zs_core.specs.History.{text_of}
+use Rattle.zscan.specs.Session.{IsUp}
+use Rattle.zscan.specs.Plays.{Went}
+use Rattle.zscan.specs.Finish.{phase_at}
 use Rattle.zscan.proofs.finishing.land_flights.Given as goal
 
-abbrev pub invariant-loop-fault : goal.invariant-loop-fault
-invariant-loop-fault g l = record {
+abbrev pub invariant-loop : goal.invariant-loop
+invariant-loop g l = record {
   up : IsUp l.pool;
-  goes_on : GoesOn l.initial.pool.history l.pool.history [];
+  goes_on : Went l.initial.pool l.pool (map g.D.Device.told l.initial.devices) (map g.D.Device.told l.devices) [];
+  silent : text_of l.pool.history ≡ text_of l.initial.pool.history;
   runs : IsWalking l.initial.pool.core.scan.run → IsWalking l.pool.core.scan.run;
+  phase : phase_at l.pool.history ≡ landing;
   sizes : map g.D.Device.size l.devices ≡ map g.D.Device.size l.initial.devices;
   counts : map g.D.Device.faults l.devices ≡ map g.D.Device.faults l.initial.devices;
 }
 
-abbrev pub decreases-loop-fault : goal.decreases-loop-fault
-decreases-loop-fault g l = length l.pool.core.scan.flight
+abbrev pub decreases-loop : goal.decreases-loop
+decreases-loop g l = length l.pool.core.scan.flight

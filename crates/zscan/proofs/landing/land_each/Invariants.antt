@@ -1,13 +1,17 @@
 use Rattle.std.proofs.Common.{◌≡◌, [], map, length}
-use Rattle.zs_core.specs.Told.{TellsLand, line_steps}
-use Rattle.zscan.specs.Session.{IsUp, GoesOn}
+use Rattle.zs_core.specs.History.{text_of}
+use Rattle.zscan.specs.Batches.{HasLanded}
+use Rattle.zscan.specs.Plays.{Went, AreDevicesOf}
+use Rattle.zscan.specs.Session.{IsUp}
 use Rattle.zscan.proofs.landing.land_each.Given as goal
 
 abbrev pub invariant-loop-more : goal.invariant-loop-more
 invariant-loop-more g l = record {
   up : IsUp l.pool;
-  goes_on : GoesOn l.initial.pool.history l.pool.history [];
-  told : TellsLand (line_steps l.pool.history) l.made l.landed.items;
+  goes_on : Went l.initial.pool l.pool (map g.D.Device.told l.initial.devices) (map g.D.Device.told l.devices) [];
+  silent : text_of l.pool.history ≡ text_of l.initial.pool.history;
+  landed : HasLanded l.pool l.made l.landed.items;
+  devices : AreDevicesOf l.pool.core.shape (map g.D.Device.size l.devices);
   sizes : map g.D.Device.size l.devices ≡ map g.D.Device.size l.initial.devices;
   counts : map g.D.Device.faults l.devices ≡ map g.D.Device.faults l.initial.devices;
 }

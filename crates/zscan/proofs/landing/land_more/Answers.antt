@@ -1,9 +1,12 @@
-use Rattle.std.proofs.Common.{◌∙◌}
-use Rattle.zscan.proofs.LineSteps.{was_landed}
+use Rattle.std.proofs.Common.{◌∙◌, ℕ, subst}
+use Rattle.std.specs.Prelude.{Option, IfSome}
+use Rattle.zscan.specs.Batches.{LandsFirst}
+use Rattle.zscan.proofs.Landed.{landed_more}
 use Rattle.zscan.proofs.landing.land_more.Goals as goal
 
-pub returns-clause-told : goal.returns-clause-told
-returns-clause-told g c =
-    let verdict = rw c.in-Ok-Some.field-0-is at c.in-Ok-Some.ensures.verdict in
-    was_landed _ verdict.0 c.in-Ok-Some.many verdict.1.pieces verdict.1.made _ c.args.pool.now.history c.land_next.new.pool.history c.args.made c.args.landed.now.items c.show_last.new.landed.items verdict.1.event verdict.1.counted
-    (c.in-Ok.ensures _ _ (c.history.ensures ∙ verdict.1.event)) c.requires.told
+pub returns-clause-landed : goal.returns-clause-landed
+returns-clause-landed g c =
+    let lands : LandsFirst c.args.by c.args.pool.now c.in-Some.many c.land_next.new.pool =
+    subst (λ (next : Option ℕ). IfSome next (λ many. LandsFirst c.args.by c.args.pool.now many c.land_next.new.pool)) c.in-Some.is c.in_ok-many.ensures.verdict in
+    landed_more c.args.by c.args.made c.in-Some.many c.args.landed.now.items c.show_last.new.landed.items c.args.pool.now c.land_next.new.pool lands c.facts.ensures.safe.orderly c.facts.ensures.flight c.requires.landed
+    (c.in_ok-show_last.ensures _ _ (c.history.ensures ∙ lands.verdict.event))

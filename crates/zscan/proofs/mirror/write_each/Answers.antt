@@ -9,7 +9,7 @@ loop-i-preserved g c =
     let here : c.loop-i.i < length (map g.D.Device.told c.loop-i.devices) = omega (arith, length-map c.loop-i.devices g.D.Device.told) in
     let there : c.loop-i.i < length (map g.D.Device.told c.args.devices.now) = omega (arith, length-map c.args.devices.now g.D.Device.told, c.loop-i.auto.devices) in
     record {
-      told = c.in-Ok.ensures.told ∙ next_changed (option_map (over c.args.at c.args.bytes.now)) (map g.D.Device.told c.args.devices.now) (map g.D.Device.told c.loop-i.devices) c.loop-i.i None there here c.loop-i.invariant.told;
+      told = c.in_ok-write_copy.ensures.told ∙ next_changed (option_map (over c.args.at c.args.bytes.now)) (map g.D.Device.told c.args.devices.now) (map g.D.Device.told c.loop-i.devices) c.loop-i.i None there here c.loop-i.invariant.told;
       sizes = c.write_copy.ensures.sizes ∙ c.loop-i.invariant.sizes;
-      counts = c.in-Ok.ensures.cause.ok ∙ c.loop-i.invariant.counts;
+      counts = c.in_ok-write_copy.ensures.cause.ok ∙ c.loop-i.invariant.counts;
     }

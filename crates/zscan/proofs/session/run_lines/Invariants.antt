@@ -1,12 +1,13 @@
 use Rattle.std.proofs.Common.{◌≡◌, ◌++◌, map, take, option_map}
 use Rattle.zs_core.specs.History.{text_of}
-use Rattle.zscan.specs.Session.{IsReady, GoesOn, commands_in}
+use Rattle.zscan.specs.Plays.{Went}
+use Rattle.zscan.specs.Session.{IsReady, commands_in}
 use Rattle.zscan.proofs.session.run_lines.Given as goal
 
 abbrev pub invariant-loop-line : goal.invariant-loop-line
 invariant-loop-line g l = record {
   ready : IsReady l.pool;
-  goes_on : GoesOn l.fn.pool.history l.pool.history (commands_in (take l.line-index l.lines));
+  goes_on : Went l.fn.pool l.pool (map g.D.Device.told l.fn.devices) (map g.D.Device.told l.devices) (commands_in (take l.line-index l.lines));
   told : g.K.Sink.told l.out ≡ option_map (λ b. b ++ text_of l.pool.history) (g.K.Sink.told l.fn.out);
   sizes : map g.D.Device.size l.devices ≡ map g.D.Device.size l.fn.devices;
   counts : map g.D.Device.faults l.devices ≡ map g.D.Device.faults l.fn.devices;

@@ -1,8 +1,11 @@
-use Rattle.std.proofs.Common.{sym, ◌∙◌}
-use Rattle.zscan.proofs.Backs.{fresh_back}
+use Rattle.std.proofs.Common.{ap, map, List, ℕ, subst, sym, ◌∙◌}
+use Rattle.zscan.proofs.Backs.{fresh_back, kept_back}
+use Rattle.zscan.proofs.Fetching.{keeps_on}
 use Rattle.zscan.proofs.Refusals.{refusal_none}
 use Rattle.zscan.specs.Ending.{history_in}
+use Rattle.zscan.specs.Plays.{AreDevicesOf}
 use Rattle.zscan.proofs.Commands.{first_commands}
+use Rattle.zscan.proofs.Made.{plays_whole}
 use Rattle.zscan.proofs.session.step_session.Goals as goal
 
 pub run_session-requires-clause-fresh : goal.run_session-requires-clause-fresh
@@ -17,3 +20,22 @@ returns-in-Err-Memory-clause-cut g c none = refusal_none (g.K.Sink.told c.args.o
 pub returns-in-Ok-clause-lines_cut : goal.returns-in-Ok-clause-lines_cut
 returns-in-Ok-clause-lines_cut g c some =
     first_commands c.in-Ok.pool.history (history_in c.run_session.result.session) c.in-Some.first.now c.in-Some.others.now c.args.lines.now c.in-Some.ensures.cases.0 c.in-Ok.ensures.made c.run_session.ensures.went_on
+
+pub returns-in-Ok-clause-images : goal.returns-in-Ok-clause-images
+returns-in-Ok-clause-images g c =
+    keeps_on g.D.Device.size g.D.Device.told c.args.devices.items _ c.run_session.result
+    (kept_back _ _ _ _ _ c.as_mut_slice.ensures.value c.as_mut_slice.ensures.len c.make_pool.ensures.sizes)
+    (kept_back _ _ _ _ _ c.as_mut_slice.ensures.value c.as_mut_slice.ensures.len c.make_pool.ensures.told)
+    c.run_session.ensures.images
+
+pub run_session-requires-clause-devices : goal.run_session-requires-clause-devices
+run_session-requires-clause-devices g c =
+    subst (λ (sizes : List ℕ). AreDevicesOf c.in-Ok.pool.core.shape sizes)
+    (ap (map g.D.Device.size) c.as_mut_slice.ensures.value ∙ sym (kept_back g.D.Device.size _ _ _ _ c.as_mut_slice.ensures.value c.as_mut_slice.ensures.len c.make_pool.ensures.sizes))
+    c.in-Ok.ensures.devices
+
+pub returns-in-Ok-clause-plays : goal.returns-in-Ok-clause-plays
+returns-in-Ok-clause-plays g c = λ zero.
+    plays_whole g.D.Device.told c.in-Ok.pool c.run_session.result.session _ _ _ c.in-Ok.ensures.is_made
+    (kept_back g.D.Device.told _ _ _ _ c.as_mut_slice.ensures.value c.as_mut_slice.ensures.len c.make_pool.ensures.told)
+    (c.run_session.ensures.plays zero)

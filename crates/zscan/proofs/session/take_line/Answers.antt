@@ -1,5 +1,8 @@
-use Rattle.std.proofs.Common.{arith}
+use Rattle.std.proofs.Common.{◌++◌, Err, option_map, ap, sym, ◌∙◌, arith}
+use Rattle.zs_core.specs.History.{text_of}
 use Rattle.std.proofs.lemmas.Grind.{common_steps}
+use Rattle.zscan.proofs.Commands.{part_whole}
+use Rattle.zscan.proofs.Histories.{goes_of}
 use Rattle.zscan.proofs.Texts.{part_before, part_rest}
 use Rattle.zscan.proofs.session.take_line.Goals as goal
 
@@ -15,4 +18,10 @@ returns-in-Err-Memory-clause-part g c start was =
 
 pub returns-in-Err-clause-part : goal.returns-in-Err-clause-part
 returns-in-Err-clause-part g c start was =
-    part_rest start (g.K.Sink.told c.args.out.now) (g.K.Sink.told c.put_events.new.out) c.args.pool.now.history c.run_line.new.pool.history _ _ c.in-Ok.ensures.goes_on (grind (arith, common_steps)) was c.in-Err.ensures.part
+    part_rest start (g.K.Sink.told c.args.out.now) (g.K.Sink.told c.put_events.new.out) c.args.pool.now.history c.run_line.new.pool.history _ _ (goes_of _ _ _ _ _ c.in-Ok.ensures.goes_on) (grind (arith, common_steps)) was c.in-Err.ensures.part
+
+pub returns-in-Err-Failed-clause-whole : goal.returns-in-Err-Failed-clause-whole
+returns-in-Err-Failed-clause-whole g c is start was = was ∙ ap (λ t. option_map (λ b. b ++ t) start) (sym (c.in-Err-Failed.ensures.silent (ap Err c.in-Err-Failed.field-0-is)))
+
+pub returns-in-Err-clause-went_on : goal.returns-in-Err-clause-went_on
+returns-in-Err-clause-went_on g c = part_whole _ _ _ (goes_of _ _ _ _ _ c.in-Ok.ensures.goes_on)

@@ -1,3 +1,4 @@
+use Rattle.zscan.proofs.Histories.{silent_adds}
 use Rattle.zscan.proofs.LineSteps.{one_more, none_more}
 use Rattle.zscan.proofs.turns.turn.Goals as goal
 
@@ -6,3 +7,6 @@ returns-in-Ok-clause-made c is = one_more _ _ _ _ _ c.in-Ok.ensures.event (c.out
 
 pub returns-in-Ok-clause-none : goal.returns-in-Ok-clause-none
 returns-in-Ok-clause-none c other = none_more _ _ _ _ _ c.in-Ok.ensures.event (c.outcome_of.ensures.none other)
+
+pub returns-in-Ok-clause-silent : goal.returns-in-Ok-clause-silent
+returns-in-Ok-clause-silent c = silent_adds _ _ _ _ c.in-Ok.ensures.event
