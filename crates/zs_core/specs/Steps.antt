@@ -67,7 +67,7 @@ abbrev pub IsStagedWith : List (Slot × Staging) → DsId → ℕ → ℕ → �
 IsStagedWith old ds object sectors fill new =
     (root : Place) × (dnode : Place) × (place : Place) × KeepsPlace (staged_at old (ds, record_key object 0)) place
     × (new ≡ put_staged (staged_once (staged_once old (ds, root_key) root) (ds, dnode_key object) dnode) (ds, record_key object 0)
-      (record { place = place; sectors = sectors; fill = Some fill }))
+    (record { place = place; sectors = sectors; fill = Some fill }))
 
 -- a `make`: refused, or the record is staged. Whether there is space for it is left open
 abbrev pub MakeStep : PoolState → DsName → ℕ → ℕ → ℕ → Reply → PoolState → Type 0

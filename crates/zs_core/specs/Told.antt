@@ -35,7 +35,12 @@ issued_of e = record { sector = e.piece.place.sector; letters = map letter_of e.
 
 -- a landed piece, as a reply tells it: with the letters of its entry, where one was made
 abbrev pub landed_of : List Entry → Piece → LandedPiece
-landed_of entries p = record { vdev = p.place.vdev; sector = p.place.sector; letters = option_map (λ e. map letter_of e.copies) (find (λ e. is_piece p e.piece) entries) }
+landed_of entries p =
+    record {
+      vdev = p.place.vdev;
+      sector = p.place.sector;
+      letters = option_map (λ e. map letter_of e.copies) (find (λ e. is_piece p e.piece) entries);
+    }
 
 -- a turn of the walk, a batch, a verdict and a sync that begins belong to the line that follows them
 abbrev pub is_of_line : Step → Bool
@@ -94,7 +99,9 @@ TellsHold _ vdev n sectors = ⊥
 -- one batch was taken and checked, with a result for each of its pieces; or it was empty
 abbrev pub TellsIssue : List Step → ℕ → ℕ → List IssuedPiece → Type 0
 TellsIssue (step.Hold number v online pieces ∷ []) vdev n shown = (v ≡ vdev) × (pieces ≡ []) × (shown ≡ [])
-TellsIssue (step.Hold number v online pieces ∷ step.Verdict m checked entries ∷ []) vdev n shown = (v ≡ vdev) × (length pieces ≤ n) × (m ≡ number) × (map (λ e. e.piece) entries ≡ pieces) × (shown ≡ map issued_of entries)
+TellsIssue (step.Hold number v online pieces ∷ step.Verdict m checked entries ∷ []) vdev n shown =
+    (v ≡ vdev) × (length pieces ≤ n) × (m ≡ number) × (map (λ e. e.piece) entries ≡ pieces) ×
+    (shown ≡ map issued_of entries)
 TellsIssue _ vdev n shown = ⊥
 
 -- what the verdict of a batch shows of its pieces, and how many entries were made

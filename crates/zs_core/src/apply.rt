@@ -98,7 +98,9 @@ impl Present {
         ensures step { IfOk result (λ items. DataStep self.old.state items.items self.new.state) }
         ensures complete { OnOk result (IsComplete self.old.scan → self.new.state.finished ≡ true) }
         ensures never { OnOk result (IsComplete self.new.scan → ⊥) }
-        ensures scan { OnOk result ((pieces : List Piece) × AreGone pieces self.old.state.graph self.new.state.graph × IsSynced pieces self.new.state.applied self.old.scan self.new.scan) }
+        ensures scan { OnOk result
+            ((pieces : List Piece) × AreGone pieces self.old.state.graph self.new.state.graph ×
+            IsSynced pieces self.new.state.applied self.old.scan self.new.scan) }
         ensures rest { OnOk result (self.new ≡ record self.old { state = self.new.state; scan = self.new.scan; pointers = [] }) }
         ensures items { IfOk result (λ items. AreItemsOf self.old.pointers items.items) }
         ensures stage { OnOk result (self.new.state.stage ≡ Stage.Labelling) }

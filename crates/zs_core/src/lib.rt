@@ -9,6 +9,14 @@
 //! of the walk; what waits or flies is live, with its pointer's size and sum; each stands once (`specs/Kept`, `specs/Safe`).
 //! After want of memory a pool is as it was, but that in the middle of a sync it is suspended.
 //!
+//! Why two accounts of one pool. The history says what happened in words that know neither bookmark nor queue, so it can be
+//! read without the engine: a scan that it reports as finished has an entry for each live piece in scope. The present state
+//! is what the engine works with. The type ties them, so no call can do the one without the other.
+//!
+//! Why a sync is made in a copy. Memory may be wanting at any step of it, and a pool half of which is new could keep no
+//! promise. So what a sync applies is made beside the present state and takes its place in one move, after which nothing is
+//! refused; until then datasets, scan and history are as they were, and the pool can still be suspended as it stands.
+//!
 //! The sessions of `zscan` call it. Two layers: `present` makes the steps and keeps what is true of the state; `pool` adds
 //! one event per call. To change what a command does see `staging` and `specs/Replies`, `specs/Steps`; the end of a sync
 //! `apply` and `tasks`; the scan `scanning`, and under it `zs_scan`; what `status` tells `status`, `specs/Status`; which

@@ -90,7 +90,9 @@ impl Model for Pool {
 
     ghost view = { λ p. record { core = p.present; history = p.history.items } };
 
-    ghost invariant = { λ p. IsHistory p.history.items p.present.state × (vec_len p.history + events_due p.present.state.stage ≤ vec_capacity p.history) × FlyAsTold p.present.scan.flight p.history.items };
+    ghost invariant = { λ p. IsHistory p.history.items p.present.state ×
+        (vec_len p.history + events_due p.present.state.stage ≤ vec_capacity p.history) ×
+        FlyAsTold p.present.scan.flight p.history.items };
 }
 
 /// Room for an event, and for the two that end a sync in progress.
@@ -226,7 +228,9 @@ impl Pool {
     /// Makes a pool: a sync of transaction group 1, in which nothing is staged, is in progress.
     pub fn blank(alloc: Global, shape: Shape) -> Result<Pool, AllocError>
         requires { IsShape shape }
-        ensures made { IfOk result (λ p. AddsEvent 0 (Step.Made (Command.Pool shape.pool shape.width shape.limit shape.every shape.blocks)) (Reply.Made shape.pool 1) [] p.history) }
+        ensures made { IfOk result
+            (λ p. AddsEvent 0 (Step.Made (Command.Pool shape.pool shape.width shape.limit shape.every shape.blocks))
+            (Reply.Made shape.pool 1) [] p.history) }
         ensures state { IfOk result (λ p. p.core.state ≡ blank_state shape.width shape.devices) }
         ensures scan { IfOk result (λ p. p.core.scan ≡ blank_scan shape.devices shape.width shape.limit p.core.scan.room) }
         ensures shape { IfOk result (λ p. p.core.shape ≡ shape) }
@@ -384,7 +388,8 @@ impl Pool {
         ensures within { IfOk result (λ staged. AreInRoom (room_in self.old.core.shape self.old.core.end_sector 0) staged.blocks) }
         ensures pointers { IfOk result (λ staged. self.new.core.pointers ≡ pointers_of staged.blocks) }
         ensures rest { self.new.core ≡ record self.old.core { state = self.new.core.state; pointers = self.new.core.pointers } }
-        ensures told { IsErrOf result PoolFault.Refused → AddsEvent 0 Step.BeginSync (Reply.RefusedSync 4294967295 Refusal.TxgEnd) self.old.history self.new.history }
+        ensures told { IsErrOf result PoolFault.Refused →
+            AddsEvent 0 Step.BeginSync (Reply.RefusedSync 4294967295 Refusal.TxgEnd) self.old.history self.new.history }
         ensures end { IsErrOf result PoolFault.Refused → self.old.core.state.open_txg.txg ≡ 4294967295 }
         ensures refused { IsErrOf result PoolFault.Refused → self.new.core ≡ self.old.core }
         ensures memory { IsErrOf result PoolFault.Memory → self.new ≡ self.old }
@@ -426,10 +431,15 @@ impl Pool {
         ensures step { OnOk result (AppliesGroup self.old self.new) }
         ensures ends { OnOk result (IsComplete self.old.core.scan → is_at_work self.new.core.state.scan ≡ false) }
         ensures rest { OnOk result (self.new.core ≡ record self.old.core { state = self.new.core.state; scan = self.new.core.scan; pointers = [] }) }
-        ensures scan { OnOk result ((pieces : List Piece) × AreGone pieces self.old.core.state.graph self.new.core.state.graph × IsSynced pieces self.new.core.state.applied self.old.core.scan self.new.core.scan) }
+        ensures scan { OnOk result
+            ((pieces : List Piece) × AreGone pieces self.old.core.state.graph self.new.core.state.graph ×
+            IsSynced pieces self.new.core.state.applied self.old.core.scan self.new.core.scan) }
         ensures stage { OnOk result (self.new.core.state.stage ≡ Stage.Labelling) }
         ensures kept { OnOk result (KeepsReads self.old.core.state self.new.core.state) }
-        ensures err { OnErr result (AddsEvent 0 (Step.Suspend self.old.core.state.online CommitFault.Memory) Reply.Nothing self.old.history self.new.history × (self.new.core ≡ record self.old.core { state = halted self.old.core.state })) }
+        ensures err { OnErr result
+            (AddsEvent 0
+            (Step.Suspend self.old.core.state.online CommitFault.Memory) Reply.Nothing self.old.history self.new.history ×
+            (self.new.core ≡ record self.old.core { state = halted self.old.core.state })) }
     {
         let online = self.present.online();
         let Ok(items) = self.present.apply() else {
@@ -471,9 +481,14 @@ impl Pool {
     pub fn committed(&mut self) -> Result<(), AllocError>
         requires labelling { self.old.core.state.stage ≡ Stage.Labelling }
         requires up { self.old.core.state.suspended ≡ false }
-        ensures event { OnOk result (AddsEvent 0 (Step.Committed self.old.core.state.online) (committed_reply self.old.core.state) self.old.history self.new.history) }
+        ensures event { OnOk result
+            (AddsEvent 0 (Step.Committed self.old.core.state.online)
+            (committed_reply self.old.core.state) self.old.history self.new.history) }
         ensures core { OnOk result (self.new.core ≡ record self.old.core { state = record self.old.core.state { stage = Stage.Between } }) }
-        ensures err { OnErr result (AddsEvent 0 (Step.Suspend self.old.core.state.online CommitFault.Memory) Reply.Nothing self.old.history self.new.history × (self.new.core ≡ record self.old.core { state = halted self.old.core.state })) }
+        ensures err { OnErr result
+            (AddsEvent 0
+            (Step.Suspend self.old.core.state.online CommitFault.Memory) Reply.Nothing self.old.history self.new.history ×
+            (self.new.core ≡ record self.old.core { state = halted self.old.core.state })) }
     {
         let online = self.present.online();
         let Ok(reply) = self.present.committed_reply() else {
@@ -497,7 +512,9 @@ impl Pool {
         requires up { self.old.core.state.suspended ≡ false }
         ensures event { IfOk result (λ turn. AddsEvent by (Step.Walk turn) Reply.Nothing self.old.history self.new.history) }
         ensures turn { IfOk result (λ turn. Walked self.old.core.state.graph self.old.core.scan turn self.new.core.scan) }
-        ensures left { IfOk result (λ turn. turn ≢ Turn.Nothing → turns_left self.old.core.state.graph self.new.core.scan.run < turns_left self.old.core.state.graph self.old.core.scan.run) }
+        ensures left { IfOk result
+            (λ turn. turn ≢ Turn.Nothing →
+            turns_left self.old.core.state.graph self.new.core.scan.run < turns_left self.old.core.state.graph self.old.core.scan.run) }
         ensures core { self.new.core ≡ record self.old.core { scan = self.new.core.scan } }
         ensures full { IsErrOf result ScanFault.Full → IsFull self.old.core.state.graph self.old.core.scan }
         ensures busy { IsErrOf result ScanFault.ScanBusy → ⊥ }
@@ -520,11 +537,20 @@ impl Pool {
         requires some { 1 ≤ n }
         requires up { self.old.core.state.suspended ≡ false }
         ensures event { IfOk result (λ b. AddsEvent by (Step.Hold b.number vdev b.online (pieces_in b.items)) Reply.Nothing self.old.history self.new.history) }
-        ensures batch { IfOk result (λ b. b ≡ record { number = self.old.core.scan.batches; vdev = vdev; online = self.old.core.state.online; items = lowest self.old.core.scan.waiting vdev n }) }
+        ensures batch { IfOk result
+            (λ b. b
+            ≡ record {
+              number = self.old.core.scan.batches;
+              vdev = vdev;
+              online = self.old.core.state.online;
+              items = lowest self.old.core.scan.waiting vdev n;
+            }) }
         ensures taken { IfOk result (λ b. 1 ≤ length b.items → Taken self.old.core.scan b self.new.core.scan) }
         ensures none { IfOk result (λ b. length b.items ≡ 0 → self.new.core.scan ≡ record self.old.core.scan { room = self.new.core.scan.room }) }
         ensures core { self.new.core ≡ record self.old.core { scan = self.new.core.scan } }
-        ensures err { OnErr result ((self.new.history ≡ self.old.history) × (self.new.core.scan ≡ record self.old.core.scan { room = self.new.core.scan.room })) }
+        ensures err { OnErr result
+            ((self.new.history ≡ self.old.history) ×
+            (self.new.core.scan ≡ record self.old.core.scan { room = self.new.core.scan.room })) }
     {
         self.history.reserve(ROOM)?;
         let mut pieces = Vec::new(self.alloc);
@@ -551,7 +577,11 @@ impl Pool {
     pub fn verdict(&mut self, by: u8, v: &Verdicts) -> Result<usize, AllocError>
         requires copies { HaveCopies self.old.core.scan.scope.width v.now.entries }
         ensures judged { IfOk result (λ n. HasVerdict by self.old v.now n self.new) }
-        ensures core { self.new.core ≡ record self.old.core { state = record self.old.core.state { scan = self.new.core.state.scan }; scan = self.new.core.scan } }
+        ensures core { self.new.core
+            ≡ record self.old.core {
+              state = record self.old.core.state { scan = self.new.core.state.scan };
+              scan = self.new.core.scan;
+            } }
         ensures err { OnErr result (self.new ≡ self.old) }
     {
         self.history.reserve(ROOM)?;
@@ -592,11 +622,19 @@ impl Pool {
         object: u16,
         leaf: u32,
     ) -> Result<ReadPlan, PoolFault>
-        ensures event { IfOk result (λ plan. AddsEvent by (Step.ReadBegin (Command.Read ds.now object leaf) (Some plan)) Reply.Nothing self.old.history self.new.history) }
+        ensures event { IfOk result
+            (λ plan. AddsEvent by
+            (Step.ReadBegin (Command.Read ds.now object leaf)
+            (Some plan)) Reply.Nothing self.old.history self.new.history) }
         ensures step { IfOk result (λ plan. ReadBeginStep self.old.core.state by ds.now object leaf (Some plan) Reply.Nothing self.new.core.state) }
-        ensures begun { IfOk result (λ plan. self.new.core ≡ with_read self.old.core (record { by = by; ds = ds.now; object = object; leaf = leaf; plan = plan })) }
+        ensures begun { IfOk result
+            (λ plan. self.new.core
+            ≡ with_read self.old.core (record { by = by; ds = ds.now; object = object; leaf = leaf; plan = plan })) }
         ensures within { IfOk result (IsPlanInRoom (room_in self.old.core.shape self.old.core.end_sector 0)) }
-        ensures told { IsErrOf result PoolFault.Refused → (why : Refusal) × (read_refusal self.old.core.state ds.now object leaf ≡ Some why) × AddsEvent by (Step.ReadBegin (Command.Read ds.now object leaf) None) (Reply.Refused why) self.old.history self.new.history }
+        ensures told { IsErrOf result PoolFault.Refused →
+            (why : Refusal) × (read_refusal self.old.core.state ds.now object leaf ≡ Some why) ×
+            AddsEvent by (Step.ReadBegin (Command.Read ds.now object leaf) None)
+            (Reply.Refused why) self.old.history self.new.history }
         ensures refused { IsErrOf result PoolFault.Refused → self.new.core ≡ self.old.core }
         ensures memory { IsErrOf result PoolFault.Memory → self.new ≡ self.old }
     {

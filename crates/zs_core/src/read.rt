@@ -70,8 +70,11 @@ impl Present {
 
     /// Where the answer of a read of the head comes from.
     fn plan(&self, head: &Head, object: u16, leaf: u32) -> ReadPlan
-        ensures plan { result ≡ plan_from (staged_record self.now.state head.now.id (record_key object leaf)) (bp_at head.now.map.map.entries (record_key object leaf)) self.now.state.online }
-        ensures placed { staged_record self.now.state head.now.id (record_key object leaf) ≡ None → IsPlacedAt (bp_at head.now.map.map.entries (record_key object leaf)) }
+        ensures plan { result
+            ≡ plan_from (staged_record self.now.state head.now.id (record_key object leaf))
+            (bp_at head.now.map.map.entries (record_key object leaf)) self.now.state.online }
+        ensures placed { staged_record self.now.state head.now.id (record_key object leaf) ≡ None →
+            IsPlacedAt (bp_at head.now.map.map.entries (record_key object leaf)) }
     {
         if let Some(staging) = self.staging(head.id, key_of(object, leaf)) {
             return ReadPlan::Staged(staging.fill.unwrap_or(0));

@@ -21,7 +21,9 @@ impl Present {
     pub(crate) fn walk(&mut self) -> Result<Turn, ScanFault>
         requires up { self.old.state.suspended ≡ false }
         ensures turn { IfOk result (λ turn. Walked self.old.state.graph self.old.scan turn self.new.scan) }
-        ensures left { IfOk result (λ turn. turn ≢ Turn.Nothing → turns_left self.old.state.graph self.new.scan.run < turns_left self.old.state.graph self.old.scan.run) }
+        ensures left { IfOk result
+            (λ turn. turn ≢ Turn.Nothing →
+            turns_left self.old.state.graph self.new.scan.run < turns_left self.old.state.graph self.old.scan.run) }
         ensures state { self.new.state ≡ self.old.state }
         ensures full { IsErrOf result ScanFault.Full → IsFull self.old.state.graph self.old.scan }
         ensures busy { IsErrOf result ScanFault.ScanBusy → ⊥ }
@@ -36,7 +38,14 @@ impl Present {
     pub(crate) fn take(&mut self, vdev: u8, n: u32) -> Result<Batch, ScanFault>
         requires up { self.old.state.suspended ≡ false }
         requires some { 1 ≤ n }
-        ensures batch { IfOk result (λ b. b ≡ record { number = self.old.scan.batches; vdev = vdev; online = self.old.state.online; items = lowest self.old.scan.waiting vdev n }) }
+        ensures batch { IfOk result
+            (λ b. b
+            ≡ record {
+              number = self.old.scan.batches;
+              vdev = vdev;
+              online = self.old.state.online;
+              items = lowest self.old.scan.waiting vdev n;
+            }) }
         ensures taken { IfOk result (λ b. 1 ≤ length b.items → Taken self.old.scan b self.new.scan) }
         ensures none { IfOk result (λ b. length b.items ≡ 0 → self.new.scan ≡ record self.old.scan { room = self.new.scan.room }) }
         ensures state { self.new.state ≡ self.old.state }

@@ -7,8 +7,8 @@
 //! facts: the graph is valid, the state is sound, and each live piece in scope is done or ahead of the state. A scan
 //! that starts has all three, and one with nothing left to walk has done each live piece in scope.
 //!
-//! A law is a function that does nothing, and whose contract is the law. The scan cites them for its running and its
-//! stored state. The laws' proofs stand in `proofs/`, a file for each.
+//! A law is a function that does nothing, and whose contract is the law. `zs_scan` cites them for its running state, and
+//! `zs_walk` and `zs_plain` for single turns. The laws' proofs stand in `proofs/`, a file for each.
 #![tactic(auto)]
 
 pub mod laws;

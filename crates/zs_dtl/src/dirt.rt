@@ -95,7 +95,12 @@ impl Dirt {
         failed: &TxgSet,
     ) -> Result<(), AllocError>
         requires { dev < length self.old }
-        ensures log { OnOk result (IsJoinedLog (λ t. (has_txg (log_of self.old dev) t && not (is_excised min max (option_copied only.entry) t)) || has_txg failed.now t) (log_of self.new dev)) }
+        ensures log { OnOk result
+            (IsJoinedLog
+            (λ t.
+            (has_txg (log_of self.old dev) t && not
+            (is_excised min max (option_copied only.entry) t)) || has_txg failed.now t)
+            (log_of self.new dev)) }
         ensures others { self.new ≡ slice_set self.old dev (log_of self.new dev) }
         ensures err { OnErr result (self.new ≡ self.old) }
     {

@@ -8,7 +8,7 @@
 //! is joined. Each contract gives the one log that comes out and leaves the others; want of memory changes none.
 //! `bounds` is what a resilver takes its range from.
 //!
-//! The pool keeps one `Dirt`, the record stores it. To change the logs see `dirt`, to change what a mask means
+//! The pool does not keep a `Dirt` yet. To change the logs see `dirt`, to change what a mask means
 //! or which groups are excised see `specs/Logs`.
 #![tactic(auto)]
 

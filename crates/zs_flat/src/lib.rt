@@ -1,7 +1,7 @@
 //! A dataset's map from keys to block pointers, in a tree of its own.
 //!
-//! Layer: above `zs_ids`, which has the trait `Blocks` and its meaning. The record of a pool's state has its
-//! datasets in such maps, and tests of the crates that are generic in a map use it.
+//! Layer: above `zs_ids`, which has the trait `Blocks` and its meaning. The pool has its head's blocks in such a map,
+//! and tests of the crates that are generic in a map use it.
 //! Model: the list of the map's entries in order of key.
 //! Promise: each call of `Blocks` is that of one finite map; the keys always rise; after want of memory the
 //! map is as it was. `get` and `replace` cost O(log n), `next_from` O(log n) and a step for each entry that it

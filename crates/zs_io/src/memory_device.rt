@@ -84,7 +84,8 @@ impl Device for MemDevice {
         ensures bytes { OnOk result (Told (Some (bytes_of self.old.disk)) (λ b. buf.new ≡ slice_range b at (at + length buf.old))) }
         ensures told { Some (bytes_of self.new.disk) ≡ Some (bytes_of self.old.disk) }
         ensures crash { NoMore (images_of self.old.disk) (images_of self.new.disk) }
-        ensures time { Elapses (length self.old.disk.calls) (length self.new.disk.calls) (images_since self.old.disk) (images_since self.new.disk) (images_of self.new.disk) }
+        ensures time { Elapses (length self.old.disk.calls) (length self.new.disk.calls) (images_since self.old.disk)
+            (images_since self.new.disk) (images_of self.new.disk) }
         ensures cause { HasCause self.old.faults self.new.faults result }
         ensures memory { IsErrOf result BayFault.Memory → self.new ≡ self.old }
 
@@ -110,9 +111,12 @@ impl Device for MemDevice {
         ensures size { length self.new.disk.first ≡ length self.old.disk.first }
         ensures written { OnOk result (Some (bytes_of self.new.disk) ≡ option_map (over at bytes.now) (Some (bytes_of self.old.disk))) }
         ensures torn { OnErr result (Torn at bytes.now (bytes_of self.old.disk) (bytes_of self.new.disk)) }
-        ensures half { IsErrOf result BayFault.Failed → bytes_of self.new.disk ≡ over at (take (if self.old.torn then length bytes.now / 2 else 0) bytes.now) (bytes_of self.old.disk) }
+        ensures half { IsErrOf result BayFault.Failed →
+            bytes_of self.new.disk
+            ≡ over at (take (if self.old.torn then length bytes.now / 2 else 0) bytes.now) (bytes_of self.old.disk) }
         ensures crash { Follows (Torn at bytes.now) (images_of self.old.disk) (images_of self.new.disk) }
-        ensures time { Elapses (length self.old.disk.calls) (length self.new.disk.calls) (images_since self.old.disk) (images_since self.new.disk) (images_of self.new.disk) }
+        ensures time { Elapses (length self.old.disk.calls) (length self.new.disk.calls) (images_since self.old.disk)
+            (images_since self.new.disk) (images_of self.new.disk) }
         ensures cause { HasCause self.old.faults self.new.faults result }
         ensures memory { IsErrOf result BayFault.Memory → self.new ≡ self.old }
 
@@ -120,7 +124,9 @@ impl Device for MemDevice {
         ensures succeeds { OnOk result (fails_at self.old.fails.items self.old.from (length self.old.disk.calls) ≡ false) }
         ensures fails { IsErrOf result BayFault.Failed → fails_at self.old.fails.items self.old.from (length self.old.disk.calls) ≡ true }
         ensures call { OnOk result (self.new.disk ≡ with_call self.old.disk (Call.Wrote at bytes.now (length bytes.now))) }
-        ensures failed_call { IsErrOf result BayFault.Failed → self.new.disk ≡ with_call self.old.disk (Call.Wrote at bytes.now (if self.old.torn then length bytes.now / 2 else 0)) }
+        ensures failed_call { IsErrOf result BayFault.Failed →
+            self.new.disk
+            ≡ with_call self.old.disk (Call.Wrote at bytes.now (if self.old.torn then length bytes.now / 2 else 0)) }
         ensures list { (self.new.fails ≡ self.old.fails) × (self.new.from ≡ self.old.from) × (self.new.torn ≡ self.old.torn) }
     {
         if self.fails_next() {
@@ -138,7 +144,8 @@ impl Device for MemDevice {
         ensures durable { OnOk result (Told (Some (bytes_of self.old.disk)) (λ b. Only b (images_of self.new.disk))) }
         ensures told { Some (bytes_of self.new.disk) ≡ Some (bytes_of self.old.disk) }
         ensures crash { NoMore (images_of self.old.disk) (images_of self.new.disk) }
-        ensures time { Elapses (length self.old.disk.calls) (length self.new.disk.calls) (images_since self.old.disk) (images_since self.new.disk) (images_of self.new.disk) }
+        ensures time { Elapses (length self.old.disk.calls) (length self.new.disk.calls) (images_since self.old.disk)
+            (images_since self.new.disk) (images_of self.new.disk) }
         ensures cause { HasCause self.old.faults self.new.faults result }
         ensures memory { IsErrOf result BayFault.Memory → self.new ≡ self.old }
 

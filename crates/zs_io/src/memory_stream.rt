@@ -42,7 +42,9 @@ impl Source for MemSource {
 
     fn read(&mut self, buf: &mut [u8]) -> Result<usize, Failed>
         ensures bound { IfOk result (λ n. n ≤ length buf.old) }
-        ensures next { IfOk result (λ n. Some (drop self.old.taken self.old.bytes.items) ≡ option_map (λ rest. take n buf.new ++ rest) (Some (drop self.new.taken self.new.bytes.items))) }
+        ensures next { IfOk result
+            (λ n. Some (drop self.old.taken self.old.bytes.items)
+            ≡ option_map (λ rest. take n buf.new ++ rest) (Some (drop self.new.taken self.new.bytes.items))) }
         ensures end { IfOk result (λ n. n ≡ 0 → 0 < length buf.old → Told (Some (drop self.old.taken self.old.bytes.items)) (λ rest. rest ≡ [])) }
         ensures err { OnErr result (drop self.new.taken self.new.bytes.items ≡ drop self.old.taken self.old.bytes.items) }
         ensures count { HasCount self.old.faults self.new.faults result }

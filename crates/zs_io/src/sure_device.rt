@@ -62,7 +62,8 @@ impl Device for SureDevice {
         ensures bytes { OnOk result (Told (Some (bytes_of self.old.disk)) (λ b. buf.new ≡ slice_range b at (at + length buf.old))) }
         ensures told { Some (bytes_of self.new.disk) ≡ Some (bytes_of self.old.disk) }
         ensures crash { NoMore (images_of self.old.disk) (images_of self.new.disk) }
-        ensures time { Elapses (length self.old.disk.calls) (length self.new.disk.calls) (images_since self.old.disk) (images_since self.new.disk) (images_of self.new.disk) }
+        ensures time { Elapses (length self.old.disk.calls) (length self.new.disk.calls) (images_since self.old.disk)
+            (images_since self.new.disk) (images_of self.new.disk) }
         ensures cause { HasCause 0 0 result }
         ensures memory { IsErrOf result BayFault.Memory → self.new ≡ self.old }
 
@@ -81,7 +82,8 @@ impl Device for SureDevice {
         ensures written { OnOk result (Some (bytes_of self.new.disk) ≡ option_map (over at bytes.now) (Some (bytes_of self.old.disk))) }
         ensures torn { OnErr result (Torn at bytes.now (bytes_of self.old.disk) (bytes_of self.new.disk)) }
         ensures crash { Follows (Torn at bytes.now) (images_of self.old.disk) (images_of self.new.disk) }
-        ensures time { Elapses (length self.old.disk.calls) (length self.new.disk.calls) (images_since self.old.disk) (images_since self.new.disk) (images_of self.new.disk) }
+        ensures time { Elapses (length self.old.disk.calls) (length self.new.disk.calls) (images_since self.old.disk)
+            (images_since self.new.disk) (images_of self.new.disk) }
         ensures cause { HasCause 0 0 result }
         ensures memory { IsErrOf result BayFault.Memory → self.new ≡ self.old }
 
@@ -98,7 +100,8 @@ impl Device for SureDevice {
         ensures durable { OnOk result (Told (Some (bytes_of self.old.disk)) (λ b. Only b (images_of self.new.disk))) }
         ensures told { Some (bytes_of self.new.disk) ≡ Some (bytes_of self.old.disk) }
         ensures crash { NoMore (images_of self.old.disk) (images_of self.new.disk) }
-        ensures time { Elapses (length self.old.disk.calls) (length self.new.disk.calls) (images_since self.old.disk) (images_since self.new.disk) (images_of self.new.disk) }
+        ensures time { Elapses (length self.old.disk.calls) (length self.new.disk.calls) (images_since self.old.disk)
+            (images_since self.new.disk) (images_of self.new.disk) }
         ensures cause { HasCause 0 0 result }
         ensures memory { IsErrOf result BayFault.Memory → self.new ≡ self.old }
 

@@ -55,13 +55,16 @@ pub trait Children {
         ensures told { told self.new dev ≡ told self.old dev }
         ensures crash { NoMore (may_leave self.old dev) (may_leave self.new dev) }
         ensures time { Elapses (moment self.old dev) (moment self.new dev) (left_since self.old dev) (left_since self.new dev) (may_leave self.new dev) }
-        ensures keeps { (o : Option (List ℕ)) → Told (journal self.old dev) (λ j. Keeps o j (told self.old dev)) → Told (journal self.new dev) (λ j. Keeps o j (told self.new dev)) }
+        ensures keeps { (o : Option (List ℕ)) → Told (journal self.old dev) (λ j. Keeps o j (told self.old dev)) →
+            Told (journal self.new dev) (λ j. Keeps o j (told self.new dev)) }
         ensures count { count self.new ≡ count self.old }
         ensures sizes { (e : ℕ) → size self.new e ≡ size self.old e }
         ensures journals { (e : ℕ) → e ≢ dev → journal self.new e ≡ journal self.old e }
         ensures tolds { (e : ℕ) → e ≢ dev → told self.new e ≡ told self.old e }
         ensures counts { (e : ℕ) → e ≢ dev → faults self.new e ≡ faults self.old e }
-        ensures crashes { (e : ℕ) → e ≢ dev → Stays (moment self.old e) (moment self.new e) (left_since self.old e) (left_since self.new e) (may_leave self.old e) (may_leave self.new e) };
+        ensures crashes { (e : ℕ) → e ≢ dev →
+            Stays (moment self.old e) (moment self.new e) (left_since self.old e) (left_since self.new e)
+            (may_leave self.old e) (may_leave self.new e) };
 
     /// Writes the bytes to a device from `at` on, whose sum is handed in, and gives the place of the mark.
     fn write_summed(
@@ -75,7 +78,10 @@ pub trait Children {
         requires range { at + length bytes.now ≤ size self.old dev }
         requires sum { sum.now ≡ sha256 bytes.now }
         ensures place { IfOk result (λ p. Told (journal self.old dev) (λ j. p ≡ length j)) }
-        ensures mark { OnOk result (journal self.new dev ≡ option_map (λ j. j ++ Mark.Wrote at (length bytes.now) (sha256 bytes.now) ∷ []) (journal self.old dev)) }
+        ensures mark { OnOk result
+            (journal self.new dev
+            ≡ option_map (λ j. j ++ Mark.Wrote at (length bytes.now) (sha256 bytes.now) ∷ [])
+            (journal self.old dev)) }
         ensures written { OnOk result (told self.new dev ≡ option_map (over at bytes.now) (told self.old dev)) }
         ensures err { IfErr result (λ e. BothTold (Refused e) (journal self.old dev) (journal self.new dev)) }
         ensures cause { HasLaneCause (faults self.old dev) (faults self.new dev) result }
@@ -83,13 +89,16 @@ pub trait Children {
         ensures torn { OnErr result (BothTold (Torn at bytes.now) (told self.old dev) (told self.new dev)) }
         ensures crash { Follows (Torn at bytes.now) (may_leave self.old dev) (may_leave self.new dev) }
         ensures time { Elapses (moment self.old dev) (moment self.new dev) (left_since self.old dev) (left_since self.new dev) (may_leave self.new dev) }
-        ensures keeps { (o : Option (List ℕ)) → Told (journal self.old dev) (λ j. Keeps o j (told self.old dev)) → Told (journal self.new dev) (λ j. Keeps o j (told self.new dev)) }
+        ensures keeps { (o : Option (List ℕ)) → Told (journal self.old dev) (λ j. Keeps o j (told self.old dev)) →
+            Told (journal self.new dev) (λ j. Keeps o j (told self.new dev)) }
         ensures count { count self.new ≡ count self.old }
         ensures sizes { (e : ℕ) → size self.new e ≡ size self.old e }
         ensures journals { (e : ℕ) → e ≢ dev → journal self.new e ≡ journal self.old e }
         ensures tolds { (e : ℕ) → e ≢ dev → told self.new e ≡ told self.old e }
         ensures counts { (e : ℕ) → e ≢ dev → faults self.new e ≡ faults self.old e }
-        ensures crashes { (e : ℕ) → e ≢ dev → Stays (moment self.old e) (moment self.new e) (left_since self.old e) (left_since self.new e) (may_leave self.old e) (may_leave self.new e) };
+        ensures crashes { (e : ℕ) → e ≢ dev →
+            Stays (moment self.old e) (moment self.new e) (left_since self.old e) (left_since self.new e)
+            (may_leave self.old e) (may_leave self.new e) };
 
     /// Syncs a device, and gives the place of the mark. After it, a crash leaves what a read gives.
     fn sync(&mut self, dev: u8) -> Result<u64, LaneFault>
@@ -103,13 +112,16 @@ pub trait Children {
         ensures told { told self.new dev ≡ told self.old dev }
         ensures crash { NoMore (may_leave self.old dev) (may_leave self.new dev) }
         ensures time { Elapses (moment self.old dev) (moment self.new dev) (left_since self.old dev) (left_since self.new dev) (may_leave self.new dev) }
-        ensures keeps { (o : Option (List ℕ)) → Told (journal self.old dev) (λ j. Keeps o j (told self.old dev)) → Told (journal self.new dev) (λ j. Keeps o j (told self.new dev)) }
+        ensures keeps { (o : Option (List ℕ)) → Told (journal self.old dev) (λ j. Keeps o j (told self.old dev)) →
+            Told (journal self.new dev) (λ j. Keeps o j (told self.new dev)) }
         ensures count { count self.new ≡ count self.old }
         ensures sizes { (e : ℕ) → size self.new e ≡ size self.old e }
         ensures journals { (e : ℕ) → e ≢ dev → journal self.new e ≡ journal self.old e }
         ensures tolds { (e : ℕ) → e ≢ dev → told self.new e ≡ told self.old e }
         ensures counts { (e : ℕ) → e ≢ dev → faults self.new e ≡ faults self.old e }
-        ensures crashes { (e : ℕ) → e ≢ dev → Stays (moment self.old e) (moment self.new e) (left_since self.old e) (left_since self.new e) (may_leave self.old e) (may_leave self.new e) };
+        ensures crashes { (e : ℕ) → e ≢ dev →
+            Stays (moment self.old e) (moment self.new e) (left_since self.old e) (left_since self.new e)
+            (may_leave self.old e) (may_leave self.new e) };
 
     /// Reads the bytes of a device from `at` on into the whole buffer, and gives the place of the mark.
     final fn read(&mut self, dev: u8, at: u64, buf: &mut [u8]) -> Result<u64, LaneFault>
@@ -124,13 +136,16 @@ pub trait Children {
         ensures told { told self.new dev ≡ told self.old dev }
         ensures crash { NoMore (may_leave self.old dev) (may_leave self.new dev) }
         ensures time { Elapses (moment self.old dev) (moment self.new dev) (left_since self.old dev) (left_since self.new dev) (may_leave self.new dev) }
-        ensures keeps { (o : Option (List ℕ)) → Told (journal self.old dev) (λ j. Keeps o j (told self.old dev)) → Told (journal self.new dev) (λ j. Keeps o j (told self.new dev)) }
+        ensures keeps { (o : Option (List ℕ)) → Told (journal self.old dev) (λ j. Keeps o j (told self.old dev)) →
+            Told (journal self.new dev) (λ j. Keeps o j (told self.new dev)) }
         ensures count { count self.new ≡ count self.old }
         ensures sizes { (e : ℕ) → size self.new e ≡ size self.old e }
         ensures journals { (e : ℕ) → e ≢ dev → journal self.new e ≡ journal self.old e }
         ensures tolds { (e : ℕ) → e ≢ dev → told self.new e ≡ told self.old e }
         ensures counts { (e : ℕ) → e ≢ dev → faults self.new e ≡ faults self.old e }
-        ensures crashes { (e : ℕ) → e ≢ dev → Stays (moment self.old e) (moment self.new e) (left_since self.old e) (left_since self.new e) (may_leave self.old e) (may_leave self.new e) }
+        ensures crashes { (e : ℕ) → e ≢ dev →
+            Stays (moment self.old e) (moment self.new e) (left_since self.old e) (left_since self.new e)
+            (may_leave self.old e) (may_leave self.new e) }
     {
         let summed = self.read_summed(dev, at, buf)?;
         Ok(summed.place)
@@ -141,7 +156,10 @@ pub trait Children {
         requires dev { dev < count self.old }
         requires range { at + length bytes.now ≤ size self.old dev }
         ensures place { IfOk result (λ p. Told (journal self.old dev) (λ j. p ≡ length j)) }
-        ensures mark { OnOk result (journal self.new dev ≡ option_map (λ j. j ++ Mark.Wrote at (length bytes.now) (sha256 bytes.now) ∷ []) (journal self.old dev)) }
+        ensures mark { OnOk result
+            (journal self.new dev
+            ≡ option_map (λ j. j ++ Mark.Wrote at (length bytes.now) (sha256 bytes.now) ∷ [])
+            (journal self.old dev)) }
         ensures written { OnOk result (told self.new dev ≡ option_map (over at bytes.now) (told self.old dev)) }
         ensures err { IfErr result (λ e. BothTold (Refused e) (journal self.old dev) (journal self.new dev)) }
         ensures cause { HasLaneCause (faults self.old dev) (faults self.new dev) result }
@@ -149,13 +167,16 @@ pub trait Children {
         ensures torn { OnErr result (BothTold (Torn at bytes.now) (told self.old dev) (told self.new dev)) }
         ensures crash { Follows (Torn at bytes.now) (may_leave self.old dev) (may_leave self.new dev) }
         ensures time { Elapses (moment self.old dev) (moment self.new dev) (left_since self.old dev) (left_since self.new dev) (may_leave self.new dev) }
-        ensures keeps { (o : Option (List ℕ)) → Told (journal self.old dev) (λ j. Keeps o j (told self.old dev)) → Told (journal self.new dev) (λ j. Keeps o j (told self.new dev)) }
+        ensures keeps { (o : Option (List ℕ)) → Told (journal self.old dev) (λ j. Keeps o j (told self.old dev)) →
+            Told (journal self.new dev) (λ j. Keeps o j (told self.new dev)) }
         ensures count { count self.new ≡ count self.old }
         ensures sizes { (e : ℕ) → size self.new e ≡ size self.old e }
         ensures journals { (e : ℕ) → e ≢ dev → journal self.new e ≡ journal self.old e }
         ensures tolds { (e : ℕ) → e ≢ dev → told self.new e ≡ told self.old e }
         ensures counts { (e : ℕ) → e ≢ dev → faults self.new e ≡ faults self.old e }
-        ensures crashes { (e : ℕ) → e ≢ dev → Stays (moment self.old e) (moment self.new e) (left_since self.old e) (left_since self.new e) (may_leave self.old e) (may_leave self.new e) }
+        ensures crashes { (e : ℕ) → e ≢ dev →
+            Stays (moment self.old e) (moment self.new e) (left_since self.old e) (left_since self.new e)
+            (may_leave self.old e) (may_leave self.new e) }
     {
         let sum = sum(bytes);
         let place = self.write_summed(dev, at, bytes, &sum)?;
@@ -219,7 +240,8 @@ impl<D: Device> Children for Vec<Lane<D>> {
         lane.sync()
     }
 
-    ghost told_is = { λ v e. at_told (λ l. D.size l.device) (λ l. D.told l.device) (λ l c. D.may_leave l.device c) (λ l. D.told_is l.device) (slice_get v.items e) };
+    ghost told_is = { λ v e. at_told (λ l. D.size l.device) (λ l. D.told l.device) (λ l c. D.may_leave l.device c)
+        (λ l. D.told_is l.device) (slice_get v.items e) };
 
     ghost images_fit = { λ v e. at_fit (λ l. D.size l.device) (λ l c. D.may_leave l.device c) (λ l. D.images_fit l.device) (slice_get v.items e) };
 
@@ -227,7 +249,9 @@ impl<D: Device> Children for Vec<Lane<D>> {
 
     ghost past_is_bytes = { λ v e. at_past (λ l. D.left_since l.device) (λ l. D.past_is_bytes l.device) (slice_get v.items e) };
 
-    ghost counts_now = { λ v e. at_now (λ l. D.moment l.device) (λ l c. D.may_leave l.device c) (λ l. D.left_since l.device) (λ l. D.counts_now l.device) (slice_get v.items e) };
+    ghost counts_now = { λ v e. at_now (λ l. D.moment l.device) (λ l c. D.may_leave l.device c) (λ l. D.left_since l.device)
+        (λ l. D.counts_now l.device) (slice_get v.items e) };
 
-    ghost only_now = { λ v e. at_only (λ l. D.moment l.device) (λ l c. D.may_leave l.device c) (λ l. D.left_since l.device) (λ l. D.only_now l.device) (slice_get v.items e) };
+    ghost only_now = { λ v e. at_only (λ l. D.moment l.device) (λ l c. D.may_leave l.device c) (λ l. D.left_since l.device)
+        (λ l. D.only_now l.device) (slice_get v.items e) };
 }

@@ -77,7 +77,8 @@ impl<D: Device> Lane<D> {
         ensures size { D.size self.new.device ≡ D.size self.old.device }
         ensures told { D.told self.new.device ≡ D.told self.old.device }
         ensures crash { NoMore (D.may_leave self.old.device) (D.may_leave self.new.device) }
-        ensures time { Elapses (D.moment self.old.device) (D.moment self.new.device) (D.left_since self.old.device) (D.left_since self.new.device) (D.may_leave self.new.device) }
+        ensures time { Elapses (D.moment self.old.device) (D.moment self.new.device) (D.left_since self.old.device)
+            (D.left_since self.new.device) (D.may_leave self.new.device) }
         ensures keeps { (o : Option (List ℕ)) → Keeps o self.old.journal (D.told self.old.device) → Keeps o self.new.journal (D.told self.new.device) }
     {
         let place = room(&mut self.journal)?;
@@ -107,7 +108,8 @@ impl<D: Device> Lane<D> {
         ensures size { D.size self.new.device ≡ D.size self.old.device }
         ensures told { D.told self.new.device ≡ D.told self.old.device }
         ensures crash { NoMore (D.may_leave self.old.device) (D.may_leave self.new.device) }
-        ensures time { Elapses (D.moment self.old.device) (D.moment self.new.device) (D.left_since self.old.device) (D.left_since self.new.device) (D.may_leave self.new.device) }
+        ensures time { Elapses (D.moment self.old.device) (D.moment self.new.device) (D.left_since self.old.device)
+            (D.left_since self.new.device) (D.may_leave self.new.device) }
         ensures keeps { (o : Option (List ℕ)) → Keeps o self.old.journal (D.told self.old.device) → Keeps o self.new.journal (D.told self.new.device) }
     {
         let summed = self.read_summed(at, buf)?;
@@ -128,7 +130,8 @@ impl<D: Device> Lane<D> {
         ensures memory { IsErrOf result LaneFault.Memory → self.new ≡ self.old }
         ensures size { D.size self.new.device ≡ D.size self.old.device }
         ensures crash { Follows (Torn at bytes.now) (D.may_leave self.old.device) (D.may_leave self.new.device) }
-        ensures time { Elapses (D.moment self.old.device) (D.moment self.new.device) (D.left_since self.old.device) (D.left_since self.new.device) (D.may_leave self.new.device) }
+        ensures time { Elapses (D.moment self.old.device) (D.moment self.new.device) (D.left_since self.old.device)
+            (D.left_since self.new.device) (D.may_leave self.new.device) }
         ensures keeps { (o : Option (List ℕ)) → Keeps o self.old.journal (D.told self.old.device) → Keeps o self.new.journal (D.told self.new.device) }
     {
         let place = room(&mut self.journal)?;
@@ -157,7 +160,8 @@ impl<D: Device> Lane<D> {
         ensures memory { IsErrOf result LaneFault.Memory → self.new ≡ self.old }
         ensures size { D.size self.new.device ≡ D.size self.old.device }
         ensures crash { Follows (Torn at bytes.now) (D.may_leave self.old.device) (D.may_leave self.new.device) }
-        ensures time { Elapses (D.moment self.old.device) (D.moment self.new.device) (D.left_since self.old.device) (D.left_since self.new.device) (D.may_leave self.new.device) }
+        ensures time { Elapses (D.moment self.old.device) (D.moment self.new.device) (D.left_since self.old.device)
+            (D.left_since self.new.device) (D.may_leave self.new.device) }
         ensures keeps { (o : Option (List ℕ)) → Keeps o self.old.journal (D.told self.old.device) → Keeps o self.new.journal (D.told self.new.device) }
     {
         let sum = sum(bytes);
@@ -176,7 +180,8 @@ impl<D: Device> Lane<D> {
         ensures size { D.size self.new.device ≡ D.size self.old.device }
         ensures told { D.told self.new.device ≡ D.told self.old.device }
         ensures crash { NoMore (D.may_leave self.old.device) (D.may_leave self.new.device) }
-        ensures time { Elapses (D.moment self.old.device) (D.moment self.new.device) (D.left_since self.old.device) (D.left_since self.new.device) (D.may_leave self.new.device) }
+        ensures time { Elapses (D.moment self.old.device) (D.moment self.new.device) (D.left_since self.old.device)
+            (D.left_since self.new.device) (D.may_leave self.new.device) }
         ensures keeps { (o : Option (List ℕ)) → Keeps o self.old.journal (D.told self.old.device) → Keeps o self.new.journal (D.told self.new.device) }
     {
         let place = room(&mut self.journal)?;

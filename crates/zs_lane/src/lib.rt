@@ -1,14 +1,14 @@
 //! Lanes: devices with a journal of what was read, written and synced, and sets of them.
 //!
 //! Layer: above `zs_io` and `zs_sum`.
-//! Model: a lane is seen as its device and its list of marks (`LaneView`). A set of lanes (`Children`) is seen through functions of
-//! the device's number: size, count of faults and, where the set tells them, journal, bytes and crash images.
-//! Promise: a call that does not want memory adds just one mark, and answers its place; after want of memory lane and device
-//! are as before. `Failed` comes only where the device's count of faults rose. The journal is lawful: the sum of a read is
-//! that of the last write of its range, or of the bytes at the opening where nothing touched the range (specs/Journal).
-//! What the device does to its bytes and to what a crash may leave is passed on.
+//! Model: a lane is seen as its device and its list of marks (`LaneView`). A set of lanes (`Children`) is seen through
+//! functions of the device's number: size, count of faults and, where the set tells them, journal, bytes and crash images.
+//! Promise: a call that does not want memory adds just one mark, and answers its place; after want of memory lane and
+//! device are as before. `Failed` comes only where the device's count of faults rose. The journal is lawful: the sum of a
+//! read is that of the last write of its range, or of the bytes at the opening where nothing touched the range
+//! (specs/Journal). What the device does to its bytes and to what a crash may leave is passed on.
 //!
-//! Every check, repair, data write and label goes through `Children`. `read_summed` and `write_summed` are for callers that want the sum
+//! The program does not go through `Children` yet. `read_summed` and `write_summed` are for callers that want the sum
 //! themselves, so that each byte is hashed once. To change what a mark has see `mark`; to change what makes a journal
 //! lawful see specs/Journal.
 #![tactic(auto)]

@@ -1,8 +1,8 @@
 //! The list of what a scan has checked, in order of checking, with what became of each copy.
 //!
 //! Layer: above `zs_ids` and `zs_ranges`. The scan puts an entry for each piece of a verdict and asks `has` of each
-//! piece that it visits; the record of a pool's state stores the list; a finish takes `failed_births` into the
-//! dirty logs. OpenZFS keeps no such list: its error log (`spa_log_error`) has only the blocks without a good copy.
+//! piece that it visits. No list is stored on an image yet, and `failed_births` is for the dirty logs. OpenZFS keeps
+//! no such list: its error log (`spa_log_error`) has only the blocks without a good copy.
 //! Model: `Kept`, the list of the entries and for how many more there is room (`specs/Kept`).
 //! Promise: a push is exact and takes no memory, the room for it being reserved; `has` is whether an entry is of the
 //! piece; the error list is the entries with a bad, faulty or absent copy, in order of mirror, sector and birth.

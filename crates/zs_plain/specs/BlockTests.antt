@@ -79,7 +79,9 @@ is_place a b = a.vdev == b.vdev && a.sector == b.sector
 -- the pointers are one
 abbrev pub is_pointer : Bp → Bp → Bool
 is_pointer a b =
-    a.count == b.count && (pointwise is_place a.places b.places && (a.sectors == b.sectors && (a.birth == b.birth && (a.level == b.level && bytes_eq a.sum b.sum))))
+    a.count == b.count &&
+    (pointwise is_place a.places b.places &&
+    (a.sectors == b.sectors && (a.birth == b.birth && (a.level == b.level && bytes_eq a.sum b.sum))))
 
 abbrev pub is_entry : Key × Bp → Key × Bp → Bool
 is_entry e f = is_key e.0 f.0 && is_pointer e.1 f.1
@@ -87,4 +89,5 @@ is_entry e f = is_key e.0 f.0 && is_pointer e.1 f.1
 -- the dataset has the parent's keys, and what is not its own stands in the parent
 abbrev pub does_share : Dataset → Dataset → Bool
 does_share d parent =
-    list_all (λ e. has_block d.entries e.0 0) parent.entries && list_all (λ e. not (nat_le e.1.birth parent.creation) || list_any (λ f. is_entry f e) parent.entries) d.entries
+    list_all (λ e. has_block d.entries e.0 0) parent.entries && list_all
+    (λ e. not (nat_le e.1.birth parent.creation) || list_any (λ f. is_entry f e) parent.entries) d.entries

@@ -107,9 +107,12 @@ agrees scope s =
 -- the scope is one of its kind
 abbrev pub is_of_kind : Scope → Phys → Bool
 is_of_kind scope s =
-    (not (is_idle scope.kind) || (scope.min == 0 && scope.max == 0)) && ((not s.paused || is_scrub scope.kind) && (is_resilver scope.kind || list_all (λ log. length log == 0) scope.dirty0))
+    (not (is_idle scope.kind) || (scope.min == 0 && scope.max == 0)) &&
+    ((not s.paused || is_scrub scope.kind) &&
+    (is_resilver scope.kind || list_all (λ log. length log == 0) scope.dirty0))
 
 -- the state belongs to the graph, where `ids` are the pending datasets and `below` those below them
 abbrev pub is_sound : List DsId → List DsId → Graph → ℕ → Scope → Phys → Bool
 is_sound ids below g h scope s =
-    (are_placed g ids below && (list_all (λ q. has_low_min g h q) s.todo && list_all (λ d. is_pass scope s d) g)) && ((ends_by h scope s && is_at_rest s) && (has_no_pass s && (agrees scope s && is_of_kind scope s)))
+    (are_placed g ids below && (list_all (λ q. has_low_min g h q) s.todo && list_all (λ d. is_pass scope s d) g)) &&
+    ((ends_by h scope s && is_at_rest s) && (has_no_pass s && (agrees scope s && is_of_kind scope s)))

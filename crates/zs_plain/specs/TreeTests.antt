@@ -28,7 +28,8 @@ has_no_parent (Some parent) = false
 -- the dataset is the origin
 abbrev pub is_origin : Dataset → Bool
 is_origin d =
-    (is_id d.id ORIGIN && (not d.head && (is_name d.owner EMPTY && is_name d.label EMPTY))) && (has_no_parent d.parent && (d.creation == 1 && length d.entries == 0))
+    (is_id d.id ORIGIN && (not d.head && (is_name d.owner EMPTY && is_name d.label EMPTY))) &&
+    (has_no_parent d.parent && (d.creation == 1 && length d.entries == 0))
 
 -- the dataset stands on this one, a snapshot and older
 abbrev pub is_under : Dataset → Dataset → Bool
@@ -51,7 +52,8 @@ is_placed g n d =
 
 abbrev pub is_tree : Graph → ℕ → Bool
 is_tree g n =
-    (list_any (λ d. is_origin d) g && list_all (λ d. is_placed g n d) g) && (rise g && (nat_le (length g) 255 && list_all (λ a. list_all (λ b. are_named_apart a b) g) g))
+    (list_any (λ d. is_origin d) g && list_all (λ d. is_placed g n d) g) &&
+    (rise g && (nat_le (length g) 255 && list_all (λ a. list_all (λ b. are_named_apart a b) g) g))
 
 -- the keys are one
 abbrev pub is_key : Key → Key → Bool

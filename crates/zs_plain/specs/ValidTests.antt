@@ -15,4 +15,5 @@ do_share g = list_all (λ d. list_all (λ p. not (stands_on p.id d.parent) || do
 -- the datasets are a whole graph up to n, of which `live` are the live pieces
 abbrev pub is_valid : List Piece → Room → Graph → ℕ → Bool
 is_valid live room g n =
-    (is_tree g n && (list_all (λ d. has_blocks d n) g && (do_share g && are_apart g))) && (list_all (λ d. do_lie_in room d.entries) g && nat_le (length (each_once live)) room.blocks)
+    (is_tree g n && (list_all (λ d. has_blocks d n) g && (do_share g && are_apart g))) &&
+    (list_all (λ d. do_lie_in room d.entries) g && nat_le (length (each_once live)) room.blocks)

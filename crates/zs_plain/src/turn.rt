@@ -323,7 +323,10 @@ pub fn turn(
 ) -> Result<Option<PlainTurn>, AllocError>
     ensures turn { IfOk result (λ o. MatchOption o ⊤ (λ r. Turn g.now scope.now (λ p. has_piece done.now p) s.now r.state r.put.items)) }
     ensures step { IfOk result (λ o. MatchOption o ⊤ (λ r. Comes g.now scope.now s.now r.step)) }
-    ensures only { IfOk result (λ o. IsInIdOrder g.now → (t : Phys) → (put : List Piece) → Turn g.now scope.now (λ p. has_piece done.now p) s.now t put → MatchOption o (IsTooLarge t) (λ r. (t ≡ r.state) × (put ≡ r.put.items))) }
+    ensures only { IfOk result
+        (λ o. IsInIdOrder g.now → (t : Phys) → (put : List Piece) →
+        Turn g.now scope.now (λ p. has_piece done.now p) s.now t put →
+        MatchOption o (IsTooLarge t) (λ r. (t ≡ r.state) × (put ≡ r.put.items))) }
 {
     let next = match step(g, scope, s) {
         None => return Ok(None),

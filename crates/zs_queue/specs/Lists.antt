@@ -25,7 +25,10 @@ module _ {A : Type 0} where
 
   -- how many of the list pass, from how many of its tail do
   pub passing-cons : (p : A → Bool) (y : A) (ys : List A) → length (filter p (y ∷ ys)) ≡ length (filter p ys) + cond (p y) 1 0
-  passing-cons p y ys = elim (p y) as (λ b. length (cond b (y ∷ filter p ys) (filter p ys)) ≡ length (filter p ys) + cond b 1 0) [ true ↦ omega arith | false ↦ omega arith ]
+  passing-cons p y ys =
+      elim (p y) as
+      (λ b. length (cond b (y ∷ filter p ys) (filter p ys))
+      ≡ length (filter p ys) + cond b 1 0) [ true ↦ omega arith | false ↦ omega arith ]
 
   pub all-take : (P : A → Type 0) (n : ℕ) (xs : List A) → AllByRecursion P xs → AllByRecursion P (take n xs)
   all-take P zero xs all = tt

@@ -29,7 +29,8 @@ keys-named : (es : List (Piece × Item)) → AreNamed es → map (λ (i : Item).
 keys-named [] named = refl
 keys-named (e ∷ es) named =
     let cons : Piece → List Piece → List Piece = λ k ks. k ∷ ks in
-    ap (λ k. cons k (map (λ (i : Item). i.piece) (map (λ (x : Piece × Item). x.1) es))) (named e (inl refl)) ∙ ap (λ ks. cons e.0 ks) (keys-named es (λ x has. named x (inr has)))
+    ap (λ k. cons k (map (λ (i : Item). i.piece) (map (λ (x : Piece × Item). x.1) es))) (named e (inl refl))
+    ∙ ap (λ ks. cons e.0 ks) (keys-named es (λ x has. named x (inr has)))
 
 keys-take : (n : ℕ) (es : List (Piece × Item)) → keys_of (take n es) ≡ take n (keys_of es)
 keys-take zero es = refl
@@ -38,10 +39,13 @@ keys-take (suc n) (e ∷ es) = ap (λ (ks : List Piece). e.0 ∷ ks) (keys-take 
 
 keys-filter : (p : Piece → Bool) (es : List (Piece × Item)) → keys_of (filter (λ e. p e.0) es) ≡ filter p (keys_of es)
 keys-filter p [] = refl
-keys-filter p (e ∷ es) = elim (p e.0) as (λ b. keys_of (cond b (e ∷ filter (λ (x : Piece × Item). p x.0) es) (filter (λ (x : Piece × Item). p x.0) es)) ≡ cond b (e.0 ∷ filter p (keys_of es)) (filter p (keys_of es))) [
-  | true ↦ ap (λ (ks : List Piece). e.0 ∷ ks) (keys-filter p es)
-  | false ↦ keys-filter p es
-]
+keys-filter p (e ∷ es) =
+    elim (p e.0) as
+    (λ b. keys_of (cond b (e ∷ filter (λ (x : Piece × Item). p x.0) es) (filter (λ (x : Piece × Item). p x.0) es))
+    ≡ cond b (e.0 ∷ filter p (keys_of es)) (filter p (keys_of es))) [
+      | true ↦ ap (λ (ks : List Piece). e.0 ∷ ks) (keys-filter p es)
+      | false ↦ keys-filter p es
+    ]
 
 length-map : (es : List (Piece × Item)) → length (map (λ (e : Piece × Item). e.1) es) ≡ length es
 length-map [] = refl
@@ -64,10 +68,14 @@ lowest_is_batch items vdev n named ordered = record {
   mirror = λ i has. (found items vdev n i named has).1;
   rising =
       let some = take n (filter (is_of vdev) items) in
-      let some_named : AreNamed (take n (filter (is_of vdev) items)) = λ e has. named e (has-filter (is_of vdev) items e (has-take n (filter (is_of vdev) items) e has)).0 in
+      let some_named : AreNamed (take n (filter (is_of vdev) items)) =
+      λ e has. named e (has-filter (is_of vdev) items e (has-take n (filter (is_of vdev) items) e has)).0 in
       let keys : map (λ (i : Item). i.piece) (lowest items vdev n) ≡ take n (filter (λ (p : Piece). p.place.vdev == vdev) (keys_of items)) =
-      keys-named (take n (filter (is_of vdev) items)) some_named ∙ keys-take n (filter (is_of vdev) items) ∙ ap (λ (ks : List Piece). take n ks) (keys-filter (λ (p : Piece). p.place.vdev == vdev) items) in
-      subst (λ (ks : List Piece). IsStrictlySortedBy piece_cmp ks) (sym keys) (sorted-take piece_cmp n _ (IsStrictlySortedBy-filter piece_cmp (λ (p : Piece). p.place.vdev == vdev) (keys_of items) ordered));
+      keys-named (take n (filter (is_of vdev) items)) some_named ∙ keys-take n (filter (is_of vdev) items)
+      ∙ ap (λ (ks : List Piece). take n ks) (keys-filter (λ (p : Piece). p.place.vdev == vdev) items) in
+      subst (λ (ks : List Piece). IsStrictlySortedBy piece_cmp ks) (sym keys)
+      (sorted-take piece_cmp n _
+      (IsStrictlySortedBy-filter piece_cmp (λ (p : Piece). p.place.vdev == vdev) (keys_of items) ordered));
   most = subst (λ (k : ℕ). k ≤ n) (sym (length-map (take n (filter (is_of vdev) items)))) (length-take n (filter (is_of vdev) items));
   some = λ asked waits. subst (λ (k : ℕ). 0 < k) (sym (length-map (take n (filter (is_of vdev) items)))) (some-taken n (filter (is_of vdev) items) asked waits);
 }

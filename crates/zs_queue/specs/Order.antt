@@ -10,7 +10,11 @@ use Rattle.zs_ids.specs.declared.block.Piece.{Piece}
 use Rattle.zs_queue.specs.Waiting.{piece_cmp}
 
 pub piece_total : IsTotalOrder piece_cmp
-piece_total = then_total (then_total (on_total (λ (p : Piece). p.place.vdev) nat_cmp_total) (on_total (λ (p : Piece). p.place.sector) nat_cmp_total)) (on_total (λ (p : Piece). p.birth) nat_cmp_total)
+piece_total =
+    then_total
+    (then_total (on_total (λ (p : Piece). p.place.vdev) nat_cmp_total)
+    (on_total (λ (p : Piece). p.place.sector) nat_cmp_total))
+    (on_total (λ (p : Piece). p.birth) nat_cmp_total)
 
 both_equal : (a b : Ordering) → ordering_then a b ≡ Equal → (a ≡ Equal) × (b ≡ Equal)
 both_equal Less b h = cc
@@ -22,7 +26,9 @@ equal_pieces p q h =
     let outer = both_equal (ordering_then (nat_cmp p.place.vdev q.place.vdev) (nat_cmp p.place.sector q.place.sector)) (nat_cmp p.birth q.birth) h in
     let inner = both_equal (nat_cmp p.place.vdev q.place.vdev) (nat_cmp p.place.sector q.place.sector) outer.0 in
     let made : ℕ → ℕ → ℕ → Piece = λ v s b. record { place = record { vdev = v; sector = s }; birth = b } in
-    ap (λ v. made v p.place.sector p.birth) (exact_unsigned _ _ inner.0) ∙ ap (λ s. made q.place.vdev s p.birth) (exact_unsigned _ _ inner.1) ∙ ap (λ b. made q.place.vdev q.place.sector b) (exact_unsigned _ _ outer.1)
+    ap (λ v. made v p.place.sector p.birth) (exact_unsigned _ _ inner.0)
+    ∙ ap (λ s. made q.place.vdev s p.birth) (exact_unsigned _ _ inner.1)
+    ∙ ap (λ b. made q.place.vdev q.place.sector b) (exact_unsigned _ _ outer.1)
 
 pub tests_equal : (o : Ordering) → is_eq o ≡ true → o ≡ Equal
 tests_equal Less h = cc

@@ -14,6 +14,18 @@
 //! leaves the scan as it was.
 //! Cost: a verdict reads the batches in flight in the order in which they were taken, up to its own.
 //!
+//! Why a scan may leave the walk behind. To the walk a piece is done as soon as it waits: the bookmark goes on, and the
+//! queue owes the check. It leaves the queue only for a batch, and a batch only by a verdict, which makes its entry. So
+//! a scan whose walk is at its end, with nothing waiting and nothing in flight, has checked all that it met.
+//!
+//! Why a piece may be dropped. A piece that a sync frees is not live any more, and the promise is of live pieces alone. If
+//! it waits it leaves the queue. If it is in flight its mark is taken off, and the verdict makes no entry for it: another
+//! block may come to lie in its sectors, so what was read says nothing of either. That block has a later birth, and is
+//! another piece.
+//!
+//! Why a full queue loses nothing. The turn whose pieces would not all go in is not made: bookmark, queue and marks stay,
+//! and the block is met again when there is room.
+//!
 //! To change what waits see `zs_queue`; the turns `zs_walk`; what a call makes of a scan `specs/Steps` and `specs/Walks`;
 //! what is kept true of a scan `specs/Kept`.
 #![tactic(auto)]

@@ -146,7 +146,9 @@ reply_lines (replies.Wrote ds object leaf txg) = codes "wrote " ++ record_text d
 reply_lines (replies.Read ds object leaf value) = codes "read " ++ record_text ds object leaf ++ codes " " ++ hex_text value ++ codes "\n"
 reply_lines (replies.ReadHole ds object leaf) = codes "read " ++ record_text ds object leaf ++ codes " hole\n"
 reply_lines (replies.Committed txg tasks finished) = codes "sync " ++ decimal txg ++ codes "\n" ++ task_lines 1 tasks ++ finished_line finished
-reply_lines (replies.Walked turns why waiting) = codes "walk " ++ decimal turns ++ codes " " ++ end_text why ++ codes " waiting" ++ flat_map word_of waiting ++ codes "\n"
+reply_lines (replies.Walked turns why waiting) =
+    codes "walk " ++ decimal turns ++ codes " " ++ end_text why ++ codes " waiting" ++ flat_map word_of waiting
+    ++ codes "\n"
 reply_lines (replies.Issued vdev pieces) = codes "issue " ++ decimal vdev ++ codes " " ++ decimal (length pieces) ++ flat_map issued_text pieces ++ codes "\n"
 reply_lines (replies.Held vdev sectors) = codes "hold " ++ decimal vdev ++ codes " " ++ decimal (length sectors) ++ flat_map word_of sectors ++ codes "\n"
 reply_lines (replies.Landed entries pieces) = codes "land " ++ decimal entries ++ flat_map landed_text pieces ++ codes "\n"

@@ -19,7 +19,10 @@ pub(crate) fn walked(
     why: WalkEnd,
     waiting: &[u32],
 ) -> Result<Vec<u8>, AllocError>
-    ensures { IfOk result (λ v. v.items ≡ codes "walk " ++ decimal turns ++ codes " " ++ end_text why ++ codes " waiting" ++ flat_map word_of waiting.now ++ codes "\n") }
+    ensures { IfOk result
+        (λ v. v.items
+        ≡ codes "walk " ++ decimal turns ++ codes " " ++ end_text why ++ codes " waiting"
+        ++ flat_map word_of waiting.now ++ codes "\n") }
 {
     let why = why.name();
     let mut out = format!(in alloc; "walk {turns} {why} waiting")?.into_bytes();
@@ -30,7 +33,10 @@ pub(crate) fn walked(
 
 /// The line of a batch that was taken and checked.
 pub(crate) fn issued(alloc: Global, vdev: u8, pieces: &[IssuedPiece]) -> Result<Vec<u8>, AllocError>
-    ensures { IfOk result (λ v. v.items ≡ codes "issue " ++ decimal vdev ++ codes " " ++ decimal (length pieces.now) ++ flat_map issued_text pieces.now ++ codes "\n") }
+    ensures { IfOk result
+        (λ v. v.items
+        ≡ codes "issue " ++ decimal vdev ++ codes " " ++ decimal (length pieces.now)
+        ++ flat_map issued_text pieces.now ++ codes "\n") }
 {
     let count = pieces.len();
     let mut out = format!(in alloc; "issue {vdev} {count}")?.into_bytes();
@@ -43,7 +49,10 @@ pub(crate) fn issued(alloc: Global, vdev: u8, pieces: &[IssuedPiece]) -> Result<
 
 /// The line of a batch that was taken and is in flight.
 pub(crate) fn held(alloc: Global, vdev: u8, sectors: &[u32]) -> Result<Vec<u8>, AllocError>
-    ensures { IfOk result (λ v. v.items ≡ codes "hold " ++ decimal vdev ++ codes " " ++ decimal (length sectors.now) ++ flat_map word_of sectors.now ++ codes "\n") }
+    ensures { IfOk result
+        (λ v. v.items
+        ≡ codes "hold " ++ decimal vdev ++ codes " " ++ decimal (length sectors.now) ++ flat_map word_of sectors.now
+        ++ codes "\n") }
 {
     let count = sectors.len();
     let mut out = format!(in alloc; "hold {vdev} {count}")?.into_bytes();

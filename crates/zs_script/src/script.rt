@@ -143,7 +143,9 @@ fn take_line(
     before: Before,
     line: &Cut,
 ) -> Result<Before, ScriptFault>
-    ensures passes { IfOk result (λ next. Passes lines.old.items number before (record { bytes = line.now.bytes.now; over = line.now.over }) lines.new.items next) }
+    ensures passes { IfOk result
+        (λ next. Passes lines.old.items number before
+        (record { bytes = line.now.bytes.now; over = line.now.over }) lines.new.items next) }
     ensures stops { IfErr result (λ fault. Stops lines.old.items number before (record { bytes = line.now.bytes.now; over = line.now.over }) fault) }
 {
     let found = read_line(alloc, number, before, line.bytes, line.over)?;

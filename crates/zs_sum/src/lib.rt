@@ -4,8 +4,8 @@
 //! Promise: `sum` is the digest that FIPS 180-4 calls SHA-256, as the crate `sha2` states it. `bp_write` writes a
 //! pointer's 64 bytes as `specs/Pointer` says.
 //!
-//! The blocks' bytes are made with it, the labels and records are summed and written with it, and every
-//! check of a block compares with its sum. To change how a pointer is spelled see `specs/Pointer` and `pointer`.
+//! The blocks' bytes are made with it, and every check of a block compares with its sum. To change how a pointer is
+//! spelled see `specs/Pointer` and `pointer`.
 #![tactic(auto)]
 
 pub mod digest;

@@ -4,7 +4,7 @@
 //! Model: `Open` of `specs/Txg`: the number, the staged blocks in order of dataset and key, the tasks in
 //! order of queuing, and the room that is reserved. The blocks lie in a B-tree, and one that finds no memory
 //! there in a list whose room is reserved.
-//! Promise: the last staging of a key stands, `staged` and `entry_after` answer what stands, `sectors` is the sum over
+//! Promise: the last staging of a key stands, `get` and `entry_after` answer what stands, `sectors` is the sum over
 //! what stands, and where room was reserved `stage` is not refused. After a refusal nothing has changed.
 //!
 //! `zs_core` stages into it and queues, `zs_objset` makes its blocks' bytes at the sync. To change what is

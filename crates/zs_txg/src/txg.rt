@@ -31,7 +31,12 @@ impl Model for OpenTxg {
 
     ghost Value = { Open };
 
-    ghost view = { λ t. record { txg = t.txg; staged = with_late t.map.entries t.late.items; tasks = t.tasks.items; room = vec_capacity t.late - vec_len t.late } };
+    ghost view = { λ t. record {
+      txg = t.txg;
+      staged = with_late t.map.entries t.late.items;
+      tasks = t.tasks.items;
+      room = vec_capacity t.late - vec_len t.late;
+    } };
 
     ghost invariant = { λ t. IsCounted (with_late t.map.entries t.late.items) t.sectors t.tasks.items };
 }
@@ -78,7 +83,13 @@ impl OpenTxg {
         sectors: u16,
         fill: Option<u64>,
     ) -> Result<(), AllocError>
-        ensures ok { OnOk result (self.new ≡ record self.old { staged = put_staged self.old.staged (ds, key) (record { place = place; sectors = sectors; fill = fill }); room = self.new.room }) }
+        ensures ok { OnOk result
+            (self.new
+            ≡ record self.old {
+              staged = put_staged self.old.staged (ds, key)
+                  (record { place = place; sectors = sectors; fill = fill });
+              room = self.new.room;
+            }) }
         ensures err { OnErr result (self.new ≡ self.old) }
         ensures succeeds { 1 ≤ self.old.room → IsOk result }
         ensures room { self.old.room ≤ self.new.room + 1 }

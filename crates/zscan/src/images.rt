@@ -82,7 +82,9 @@ pub fn fetch_images<B: Bay>(
 fn is_blank<D: Device>(devices: &mut [D], i: usize, buf: &mut [u8]) -> Result<bool, BayFault>
     requires device { i < length devices.old }
     requires size { length buf.old ≡ 2048 }
-    ensures blank { IfOk result (λ blank. Told (told_at (map D.told devices.old) i) (λ bytes. blank ≡ is_zero (head_of (slice_index (map D.size devices.old) i) bytes))) }
+    ensures blank { IfOk result
+        (λ blank. Told (told_at (map D.told devices.old) i)
+        (λ bytes. blank ≡ is_zero (head_of (slice_index (map D.size devices.old) i) bytes))) }
     ensures told { map D.told devices.new ≡ map D.told devices.old }
     ensures sizes { map D.size devices.new ≡ map D.size devices.old }
     ensures cause { HaveCause (map D.faults devices.old) (map D.faults devices.new) result }
@@ -195,7 +197,8 @@ pub fn test_images<D: Device>(
     ensures sectors { IfOk result (λ sectors. (k : ℕ) → k < length devices.old → slice_index sectors.items k ≡ slice_index (map D.size devices.old) k / 512) }
     ensures least { IfOk result (λ sectors. (k : ℕ) → k < length sectors.items → least_sectors blocks ≤ slice_index sectors.items k) }
     ensures most { IfOk result (λ sectors. (k : ℕ) → k < length sectors.items → slice_index sectors.items k ≤ most_sectors) }
-    ensures unfit { (fault : Refusal) → IsErrOf result (ImageFault.Unfit fault) → IsImageFault width blocks (map D.size devices.old) (map D.told devices.old) fault }
+    ensures unfit { (fault : Refusal) → IsErrOf result (ImageFault.Unfit fault) →
+        IsImageFault width blocks (map D.size devices.old) (map D.told devices.old) fault }
     ensures unread { IsErrOf result ImageFault.Unread → SomeRose (map D.faults devices.old) (map D.faults devices.new) }
     ensures counts { (result ≢ Err ImageFault.Unread) → map D.faults devices.new ≡ map D.faults devices.old }
     ensures told { map D.told devices.new ≡ map D.told devices.old }

@@ -202,7 +202,8 @@ fn make_pool<D: Device>(
     ensures is_made { IfOk result IsMade }
     ensures devices { IfOk result (λ pool. AreDevicesOf pool.core.shape (map D.size devices.old)) }
     ensures fit { OnOk result (IsFitFor command.now (map D.size devices.old) (map D.told devices.old)) }
-    ensures unfit { (fault : Refusal) → IsErrOf result (ImageFault.Unfit fault) → IsUnfitFor command.now (map D.size devices.old) (map D.told devices.old) fault }
+    ensures unfit { (fault : Refusal) → IsErrOf result (ImageFault.Unfit fault) →
+        IsUnfitFor command.now (map D.size devices.old) (map D.told devices.old) fault }
     ensures unread { IsErrOf result ImageFault.Unread → SomeRose (map D.faults devices.old) (map D.faults devices.new) }
     ensures counts { (result ≢ Err ImageFault.Unread) → map D.faults devices.new ≡ map D.faults devices.old }
     ensures told { map D.told devices.new ≡ map D.told devices.old }
@@ -297,7 +298,9 @@ pub fn step_session<D: Device + Drop, K: Sink>(
     ensures lines_cut { IsSome result.session → AreFirst (commands_of (history_in result.session)) (commands_in lines.now) }
     ensures session { result.status ≡ 0 → IsSome result.session }
     ensures idle { result.status ≡ 0 → IfSome result.session (λ s. IsReady s.pool) }
-    ensures plays { result.status ≡ 0 → IfSome result.session (λ s. Plays s.pool.core.shape.width s.pool.history (map D.told devices.items) (map D.told s.devices.items)) }
+    ensures plays { result.status ≡ 0 →
+        IfSome result.session
+        (λ s. Plays s.pool.core.shape.width s.pool.history (map D.told devices.items) (map D.told s.devices.items)) }
     ensures images { KeepsImages D.size D.told devices.items result }
     ensures refused { result.status ≡ 3 → result.session ≡ None }
     ensures history { IfSome result.session (λ s. IsHistory s.pool.history s.pool.core.state) }
@@ -305,8 +308,13 @@ pub fn step_session<D: Device + Drop, K: Sink>(
     ensures part { IsSome result.session → PutsPart (text_of (history_in result.session)) (K.told out.old) (K.told out.new) }
     ensures whole { result.status ≡ 4 → IsSome result.session → Puts (text_of (history_in result.session)) (K.told out.old) (K.told out.new) }
     ensures fit { IsSome result.session → AreFitFor lines.now (map D.size devices.items) (map D.told devices.items) }
-    ensures unfit { result.status ≡ 3 → (fault : Refusal) × AreUnfitFor lines.now (map D.size result.devices.items) (map D.told result.devices.items) fault × Puts (refused_line fault) (K.told out.old) (K.told out.new) }
-    ensures unread { result.status ≡ 4 → result.session ≡ None → HasFailed (map D.faults result.devices.items) × Puts (refused_line Refusal.NotBlank) (K.told out.old) (K.told out.new) }
+    ensures unfit { result.status ≡ 3 →
+        (fault : Refusal) ×
+        AreUnfitFor lines.now (map D.size result.devices.items) (map D.told result.devices.items) fault ×
+        Puts (refused_line fault) (K.told out.old) (K.told out.new) }
+    ensures unread { result.status ≡ 4 → result.session ≡ None →
+        HasFailed (map D.faults result.devices.items) ×
+        Puts (refused_line Refusal.NotBlank) (K.told out.old) (K.told out.new) }
     ensures cut { result.session ≡ None → PutsRefusal (K.told out.old) (K.told out.new) }
     ensures silent { result.session ≡ None → result.status ≡ 7 → K.told out.new ≡ K.told out.old }
     ensures failed { result.status ≡ 4 → HasFailed (map D.faults (devices_in result.session result.devices.items)) }
@@ -375,7 +383,10 @@ fn run_session<D: Device + Drop, K: Sink>(
     ensures part { PutsPart (text_of (history_in result.session)) (K.told out.old) (K.told out.new) }
     ensures whole { result.status ≡ 4 → Puts (text_of (history_in result.session)) (K.told out.old) (K.told out.new) }
     ensures goes_on { result.status ≡ 0 → GoesOn session.pool.history (history_in result.session) (commands_in lines.now) }
-    ensures plays { result.status ≡ 0 → IfSome result.session (λ s. Went session.pool s.pool (map D.told session.devices.items) (map D.told s.devices.items) (commands_in lines.now)) }
+    ensures plays { result.status ≡ 0 →
+        IfSome result.session
+        (λ s. Went session.pool s.pool (map D.told session.devices.items) (map D.told s.devices.items)
+        (commands_in lines.now)) }
     ensures went_on { GoesPart session.pool.history (history_in result.session) (commands_in lines.now) }
     ensures session { IsSome result.session }
     ensures idle { result.status ≡ 0 → IfSome result.session (λ s. IsReady s.pool) }
