@@ -38,8 +38,14 @@ get-push (d ∷ marks) m x (suc k) is = elim (get-push marks m x k is) [
   | inr here ↦ inr (ap suc here.0, here.1)
 ]
 
-lawful-push : (b : List ℕ) (marks : List Mark) (m : Mark) → IsLawful b marks
-    → ((at len : ℕ) (s : List ℕ) → m ≡ Read at len s → Says b at len (touch at len marks) s) → IsLawful b (marks ++ m ∷ [])
+-- what a mark must say, if it is a read
+abbrev MarkSays : List ℕ → List Mark → Mark → Type 0
+MarkSays b marks (Read at len s) = Says b at len (touch at len marks) s
+MarkSays b marks (Wrote at len s) = Unit {0}
+MarkSays b marks Synced = Unit {0}
+MarkSays b marks Failed = Unit {0}
+
+lawful-push : (b : List ℕ) (marks : List Mark) (m : Mark) → IsLawful b marks → MarkSays b marks m → IsLawful b (marks ++ m ∷ [])
 lawful-push b marks m lawful right = record {
   reads = λ k at len s is. elim (get-push marks m (Read at len s) k is) [
     | inl before ↦
@@ -48,16 +54,9 @@ lawful-push b marks m lawful right = record {
     | inr here ↦
         let P : List Mark → Type 0 = λ l. Says b at len (touch at len l) s in
         let front : take k (marks ++ m ∷ []) ≡ marks = take-append-le k marks (m ∷ []) (omega (arith, here.0)) ∙ take_all k marks (omega (arith, here.0)) in
-        subst P (sym front) (right at len s here.1)
+        subst P (sym front) (subst (MarkSays b marks) here.1 right)
   ];
 }
-
--- what a mark must say, if it is a read
-abbrev MarkSays : List ℕ → List Mark → Mark → Type 0
-MarkSays b marks (Read at len s) = Says b at len (touch at len marks) s
-MarkSays b marks (Wrote at len s) = Unit {0}
-MarkSays b marks Synced = Unit {0}
-MarkSays b marks Failed = Unit {0}
 
 -- a range as it is now, and the sum of what was read there
 says : (b c : List ℕ) (at len : ℕ) (s : List ℕ) (t : Touch) → Fits b c at len t → s ≡ sha256 (slice_range c at (at + len)) → Says b at len t s
@@ -78,7 +77,7 @@ told_too o None b same is = absurd (none (sym (ap is_some is) ∙ same))
     none : true ≡ false → ⊥
     none e = cc
 
-tells_as : (old now : Option (List ℕ)) (R : List ℕ → List ℕ → Type 0) → BothTold R old now → is_some old ≡ is_some now
+pub tells_as : (old now : Option (List ℕ)) (R : List ℕ → List ℕ → Type 0) → BothTold R old now → is_some old ≡ is_some now
 tells_as None None R both = refl
 tells_as (Some c) (Some d) R both = refl
 tells_as None (Some d) R both = absurd both
@@ -92,41 +91,6 @@ tracks_on b c marks m nothing tracks = record {
       touch-push at len marks m ∙ ap (λ (t : Touch). later t (touch at len marks)) (nothing at len) in
       subst (Fits b c at len) (sym same) (tracks.ranges at len within);
 }
-
-module _ (o : Option (List ℕ)) (marks : List Mark) (old now : Option (List ℕ)) (keeps : Keeps o marks old) where
-  -- a read of bytes that have this sum
-  pub keeps_read : (at len : ℕ) (s : List ℕ) → now ≡ old
-      → ((c : List ℕ) → old ≡ Some c → (at + len ≤ length c) × (s ≡ sha256 (slice_range c at (at + len)))) → Keeps o (marks ++ Read at len s ∷ []) now
-  keeps_read at len s same read = record {
-    tells = keeps.tells ∙ ap is_some (sym same);
-    lawful = λ b is. lawful-push b marks (Read at len s) (keeps.lawful b is) (λ at' len' s' e. right b is at' len' s' e);
-    tracks = λ b c is now_is. tracks_on b c marks (Read at len s) (λ at' len'. refl) (keeps.tracks b c is (sym same ∙ now_is));
-  }
-    where
-      at_same : (b : List ℕ) → o ≡ Some b → Says b at len (touch at len marks) s
-      at_same b is =
-          let c = told_too o old b keeps.tells is in
-          let was = read c.0 c.1 in
-          says b c.0 at len s (touch at len marks) ((keeps.tracks b c.0 is c.1).ranges at len was.0) was.1
-
-      right : (b : List ℕ) → o ≡ Some b → (at' len' : ℕ) (s' : List ℕ) → Read at len s ≡ Read at' len' s' → Says b at' len' (touch at' len' marks) s'
-      right b is at' len' s' e = subst (MarkSays b marks) e (at_same b is)
-
-  -- a sync
-  pub keeps_sync : now ≡ old → Keeps o (marks ++ Synced ∷ []) now
-  keeps_sync same = record {
-    tells = keeps.tells ∙ ap is_some (sym same);
-    lawful = λ b is. lawful-push b marks Synced (keeps.lawful b is) (λ at len s e. absurd cc);
-    tracks = λ b c is now_is. tracks_on b c marks Synced (λ at len. refl) (keeps.tracks b c is (sym same ∙ now_is));
-  }
-
-  -- a call that failed
-  pub keeps_failed : is_some old ≡ is_some now → Keeps o (marks ++ Failed ∷ []) now
-  keeps_failed same = record {
-    tells = keeps.tells ∙ same;
-    lawful = λ b is. lawful-push b marks Failed (keeps.lawful b is) (λ at len s e. absurd cc);
-    tracks = λ b c is now_is. record { ranges = λ at len within. subst (Fits b c at len) (sym (touch-push at len marks Failed)) tt };
-  }
 
 -- a write that succeeded
 mapped : (old now : Option (List ℕ)) (f : List ℕ → List ℕ) (d : List ℕ) → now ≡ option_map f old → now ≡ Some d → (c : List ℕ) × (old ≡ Some c) × (f c ≡ d)
@@ -186,35 +150,43 @@ module _ (b c : List ℕ) (at : ℕ) (bytes : List ℕ) (s : List ℕ) (fits : a
         (wrote_fits a l (touch a l marks) (overlap a l at (length bytes)) ((at == a) && (length bytes == l)) refl refl (tracks.ranges a l (omega (arith, within, long))));
   }
 
-pub keeps_wrote : (o : Option (List ℕ)) (marks : List Mark) (old now : Option (List ℕ)) (at : ℕ) (bytes s : List ℕ) → Keeps o marks old
-    → now ≡ option_map (over at bytes) old → ((c : List ℕ) → old ≡ Some c → at + length bytes ≤ length c) → s ≡ sha256 bytes
-    → Keeps o (marks ++ Wrote at (length bytes) s ∷ []) now
-keeps_wrote o marks old now at bytes s keeps is fits sum = record {
-  tells = keeps.tells ∙ tells_map old now (over at bytes) is;
-  lawful = λ b told. lawful-push b marks (Wrote at (length bytes) s) (keeps.lawful b told) (λ a l w e. absurd cc);
-  tracks = λ b d told now_is.
-      let was = mapped old now (over at bytes) d is now_is in
-      subst (Tracks b (marks ++ Wrote at (length bytes) s ∷ [])) was.2 (tracks_wrote b was.0 at bytes s (fits was.0 was.1) sum marks (keeps.tracks b was.0 told was.1));
-}
-
--- The same with the lists as a lane's calls have them.
+-- The list of marks as a lane's call leaves it.
 pub pushed : (now room new : List Mark) (m : Mark) (inside : List Mark) → new ≡ room ++ m ∷ [] → room ≡ inside → inside ≡ now → new ≡ now ++ m ∷ []
 pushed now room new m inside is same was = is ∙ ap (λ (l : List Mark). l ++ m ∷ []) (same ∙ was)
 
 module _ (o : Option (List ℕ)) (marks new : List Mark) (old now : Option (List ℕ)) (keeps : Keeps o marks old) where
+  -- a mark that says what it must, after which the journal fits the bytes
+  after : (m : Mark) → new ≡ marks ++ m ∷ [] → is_some old ≡ is_some now → ((b : List ℕ) → o ≡ Some b → MarkSays b marks m)
+      → ((b c : List ℕ) → o ≡ Some b → now ≡ Some c → Tracks b (marks ++ m ∷ []) c) → Keeps o new now
+  after m is tells says tracks = subst (λ (l : List Mark). Keeps o l now) (sym is) (record {
+    tells = keeps.tells ∙ tells;
+    lawful = λ b told. lawful-push b marks m (keeps.lawful b told) (says b told);
+    tracks = tracks;
+  })
+
   pub after_read : (at len : ℕ) (s : List ℕ) → new ≡ marks ++ Read at len s ∷ [] → now ≡ old
       → ((c : List ℕ) → old ≡ Some c → (at + len ≤ length c) × (s ≡ sha256 (slice_range c at (at + len)))) → Keeps o new now
-  after_read at len s is same read = subst (λ (l : List Mark). Keeps o l now) (sym is) (keeps_read o marks old now keeps at len s same read)
+  after_read at len s is same read = after (Read at len s) is (ap is_some (sym same)) at_same
+      (λ b c told now_is. tracks_on b c marks (Read at len s) (λ at' len'. refl) (keeps.tracks b c told (sym same ∙ now_is)))
+    where
+      at_same : (b : List ℕ) → o ≡ Some b → Says b at len (touch at len marks) s
+      at_same b told =
+          let c = told_too o old b keeps.tells told in
+          let was = read c.0 c.1 in
+          says b c.0 at len s (touch at len marks) ((keeps.tracks b c.0 told c.1).ranges at len was.0) was.1
 
   pub after_sync : new ≡ marks ++ Synced ∷ [] → now ≡ old → Keeps o new now
-  after_sync is same = subst (λ (l : List Mark). Keeps o l now) (sym is) (keeps_sync o marks old now keeps same)
+  after_sync is same = after Synced is (ap is_some (sym same)) (λ b told. tt)
+      (λ b c told now_is. tracks_on b c marks Synced (λ at len. refl) (keeps.tracks b c told (sym same ∙ now_is)))
 
-  pub after_failure : new ≡ marks ++ Failed ∷ [] → now ≡ old → Keeps o new now
-  after_failure is same = subst (λ (l : List Mark). Keeps o l now) (sym is) (keeps_failed o marks old now keeps (ap is_some (sym same)))
-
-  pub after_torn : new ≡ marks ++ Failed ∷ [] → (R : List ℕ → List ℕ → Type 0) → BothTold R old now → Keeps o new now
-  after_torn is R torn = subst (λ (l : List Mark). Keeps o l now) (sym is) (keeps_failed o marks old now keeps (tells_as old now R torn))
+  pub after_failure : new ≡ marks ++ Failed ∷ [] → is_some old ≡ is_some now → Keeps o new now
+  after_failure is tells = after Failed is tells (λ b told. tt)
+      (λ b c told now_is. record { ranges = λ at len within. subst (Fits b c at len) (sym (touch-push at len marks Failed)) tt })
 
   pub after_write : (at : ℕ) (bytes s : List ℕ) → new ≡ marks ++ Wrote at (length bytes) s ∷ [] → now ≡ option_map (over at bytes) old
       → ((c : List ℕ) → old ≡ Some c → at + length bytes ≤ length c) → s ≡ sha256 bytes → Keeps o new now
-  after_write at bytes s is written fits sum = subst (λ (l : List Mark). Keeps o l now) (sym is) (keeps_wrote o marks old now at bytes s keeps written fits sum)
+  after_write at bytes s is written fits sum = after (Wrote at (length bytes) s) is (tells_map old now (over at bytes) written) (λ b told. tt)
+      (λ b d told now_is.
+      let was = mapped old now (over at bytes) d written now_is in
+      subst (Tracks b (marks ++ Wrote at (length bytes) s ∷ [])) was.2
+      (tracks_wrote b was.0 at bytes s (fits was.0 was.1) sum marks (keeps.tracks b was.0 told was.1)))

@@ -1,38 +1,38 @@
 -- One lane of a list is changed, and the others stay.
 use denote.Struct.Props.{props}
-use Rattle.std.proofs.Common.{◌≡◌, ◌≢◌, inl, inr, ℕ, zero, suc, ◌<◌, ◌≤◌, List, [], ◌∷◌, length, get_or, slice_set, Option, Some, refl, sym, ◌∙◌, ap, subst, arith, Vec}
+use Rattle.std.proofs.Common.{◌≡◌, ◌≢◌, ℕ, zero, suc, ◌<◌, ◌≤◌, inl, inr, List, [], ◌∷◌, length, get_or, slice_set, Option, Some, option_map, Result, IfErr, OnOk, OnErr, refl, sym, ◌∙◌, ap, subst, arith, rules, Vec}
 use Rattle.std.proofs.lemmas.Bool.{cases_eq}
 use Rattle.std.proofs.lemmas.Option.{slice_get_read}
 use Rattle.std.specs.List.{slice_get}
 use Rattle.std.specs.Vec.{with_item}
-use Rattle.zs_io.specs.Crash.{Elapses}
-use Rattle.zs_io.specs.Told.{Told}
-use Rattle.zs_lane.specs.Children.{Stays, of_lane, AtLane}
+use Rattle.zs_io.specs.Crash.{Follows, NoMore, Only, Elapses}
+use Rattle.zs_io.specs.Told.{Told, BothTold, Torn, over}
+use Rattle.zs_io.specs.declared.device.Device.{Ghosts}
+use Rattle.zs_lane.specs.Children.{DeviceView, Stays, OnlyOn, Called, Unwritten, Written, of_lane, device_at}
+use Rattle.zs_lane.specs.Journal.{Keeps}
+use Rattle.zs_lane.specs.Lane.{LaneView, Refused, HasLaneCause}
+use Rattle.zs_lane.specs.declared.fault.LaneFault.{LaneFault}
 
 module _ {X : Type 0} where
-  pub get-set_same : (xs : List X) (i : ℕ) (w : X) → i < length xs → slice_get (slice_set xs i w) i ≡ Some w
+  get-set_same : (xs : List X) (i : ℕ) (w : X) → i < length xs → slice_get (slice_set xs i w) i ≡ Some w
   get-set_same [] i w lt = absurd (omega arith)
   get-set_same (x ∷ xs) zero w lt = refl
   get-set_same (x ∷ xs) (suc i) w lt = get-set_same xs i w (omega arith)
 
-  pub get-set_other : (xs : List X) (i j : ℕ) (w : X) → j ≢ i → slice_get (slice_set xs i w) j ≡ slice_get xs j
+  get-set_other : (xs : List X) (i j : ℕ) (w : X) → j ≢ i → slice_get (slice_set xs i w) j ≡ slice_get xs j
   get-set_other [] i j w ne = refl
   get-set_other (x ∷ xs) zero zero w ne = absurd (ne refl)
   get-set_other (x ∷ xs) zero (suc j) w ne = refl
   get-set_other (x ∷ xs) (suc i) zero w ne = refl
   get-set_other (x ∷ xs) (suc i) (suc j) w ne = get-set_other xs i j w (λ is. ne (ap suc is))
 
-  pub set-get : (xs : List X) (i : ℕ) (w : X) → slice_get xs i ≡ Some w → slice_set xs i w ≡ xs
+  set-get : (xs : List X) (i : ℕ) (w : X) → slice_get xs i ≡ Some w → slice_set xs i w ≡ xs
   set-get [] i w is = refl
   set-get (x ∷ xs) zero w is = ap (λ (y : X). y ∷ xs) (same is)
     where
       same : ◌≡◌ {A = Option X} (Some x) (Some w) → w ≡ x
       same e = cc
   set-get (x ∷ xs) (suc i) w is = ap (λ (l : List X). x ∷ l) (set-get xs i w is)
-
--- nothing changed
-pub same_stays : (t : ℕ) (past : ℕ → List ℕ → Type 0) (old : List ℕ → Type 0) → Stays t t past past old old
-same_stays t past old = record { moment = refl; no_more = λ c left. left; no_less = λ c left. left; since_no_more = λ u c left. left; since_no_less = λ u c left. left }
 
 -- a list in which an element was replaced by itself
 module _ {X Z : Type 0} (v : Vec X Z) where
@@ -47,40 +47,76 @@ module _ {X Z : Type 0} (v : Vec X Z) where
   refilled_same items is =
       subst (λ (l : List X). (ok : (v.len ≡ length l) × (v.len ≤ v.cap)) → refilled l ok ≡ v) is (λ ok. ap (λ o. refilled v.items o) (one_ok ok v.ok))
 
-  pub with_item_same : (i : ℕ) (w : X) → slice_get v.items i ≡ Some w → with_item v i w ≡ v
+  with_item_same : (i : ℕ) (w : X) → slice_get v.items i ≡ Some w → with_item v i w ≡ v
   unfolding refilled
   with_item_same i w is = refilled_same (slice_set v.items i w) (sym (set-get v.items i w is)) (with_item v i w).ok
 
-module _ {L : Type 0} (items : List L) (dev : ℕ) (x y : L) (within : dev < length items) (value : x ≡ get_or items dev x) where
-  pub was_at : slice_get items dev ≡ Some x
-  was_at = slice_get_read items (length items) dev x refl within value
-
-  -- a size that the call leaves, of each device
-  pub sizes_at : (size : L → ℕ) → size y ≡ size x → (e : ℕ) → of_lane 0 size (slice_get (slice_set items dev y) e) ≡ of_lane 0 size (slice_get items e)
-  sizes_at size same e = elim (cases_eq e dev) [
-    | inl here ↦
-        let P : ℕ → Type 0 = λ k. of_lane 0 size (slice_get (slice_set items dev y) k) ≡ of_lane 0 size (slice_get items k) in
-        subst P (sym here) (ap (λ (o : Option L). of_lane 0 size o) (get-set_same items dev y within) ∙ same ∙ ap (λ (o : Option L). of_lane 0 size o) (sym was_at))
-    | inr other ↦ ap (λ (o : Option L). of_lane 0 size o) (get-set_other items dev e y other)
-  ]
+-- the device is not touched
+stays : (d : DeviceView) → Stays d d
+stays d = record {
+  journal = refl;
+  told = refl;
+  faults = refl;
+  moment = refl;
+  no_more = λ c left. left;
+  no_less = λ c left. left;
+  since_no_more = λ t c left. left;
+  since_no_less = λ t c left. left;
+}
 
 -- what a fact of the lists makes of a fact of those that are told
-pub told_on : {A : Type 0} (x y : A) (P Q : A → Type 0) → (P x → Q y) → Told (Some x) P → Told (Some y) Q
+told_on : {A : Type 0} (x y : A) (P Q : A → Type 0) → (P x → Q y) → Told (Some x) P → Told (Some y) Q
 told_on x y P Q on told z is = subst Q (some is) (on (told x refl))
   where
     some : Some y ≡ Some z → y ≡ z
     some e = cc
 
--- time and images of the lane that was called, and of another
-module _ {L : Type 0} (moment : L → ℕ) (since : L → ℕ → List ℕ → Type 0) (leaves : L → List ℕ → Type 0) (o n : Option L) where
-  pub time_at : (x y : L) → o ≡ Some x → n ≡ Some y → Elapses (moment x) (moment y) (since x) (since y) (leaves y)
-      → Elapses (of_lane 0 moment o) (of_lane 0 moment n) (λ t c. AtLane (λ l. since l t c) o) (λ t c. AtLane (λ l. since l t c) n) (λ c. AtLane (λ l. leaves l c) n)
-  time_at x y was is time =
-      let P : Option L → Option L → Type 0 = λ a b. Elapses (of_lane 0 moment a) (of_lane 0 moment b) (λ t c. AtLane (λ l. since l t c) a) (λ t c. AtLane (λ l. since l t c) b) (λ c. AtLane (λ l. leaves l c) b) in
-      subst (λ (a : Option L). P a n) (sym was) (subst (λ (b : Option L). P (Some x) b) (sym is) time)
+-- A call makes `y` of the lane `x` that stands at this place.
+module _ {D Z T : Type 0} (ghosts : Ghosts D) (v : Vec (LaneView D) Z) (dev : ℕ) (x y : LaneView D) (within : dev < length v.items)
+    (value : x ≡ get_or v.items dev x) (result : Result T LaneFault) where
+  was : slice_get v.items dev ≡ Some x
+  was = slice_get_read v.items (length v.items) dev x refl within value
 
-  pub stays_at : n ≡ o
-      → Stays (of_lane 0 moment o) (of_lane 0 moment n) (λ t c. AtLane (λ l. since l t c) o) (λ t c. AtLane (λ l. since l t c) n) (λ c. AtLane (λ l. leaves l c) o) (λ c. AtLane (λ l. leaves l c) n)
-  stays_at same =
-      let P : Option L → Type 0 = λ b. Stays (of_lane 0 moment o) (of_lane 0 moment b) (λ t c. AtLane (λ l. since l t c) o) (λ t c. AtLane (λ l. since l t c) b) (λ c. AtLane (λ l. leaves l c) o) (λ c. AtLane (λ l. leaves l c) b) in
-      subst P (sym same) (same_stays (of_lane 0 moment o) (λ t c. AtLane (λ l. since l t c) o) (λ c. AtLane (λ l. leaves l c) o))
+  abbrev old : ℕ → DeviceView
+  old e = device_at (of_lane ghosts) (slice_get v.items e)
+
+  abbrev new : ℕ → DeviceView
+  new e = device_at (of_lane ghosts) (slice_get (slice_set v.items dev y) e)
+
+  -- what holds of the lanes holds of the device before and after
+  at_dev : (P : DeviceView → DeviceView → Type 0) → P (of_lane ghosts x) (of_lane ghosts y) → P (old dev) (new dev)
+  at_dev P fact = rw (was, get-set_same v.items dev y within) fact
+
+  pub unchanged : y ≡ x → with_item v dev y ≡ v
+  unchanged same = with_item_same v dev y (was ∙ ap (λ l. Some l) (sym same))
+
+  pub only_on : ghosts.size y.device ≡ ghosts.size x.device → OnlyOn dev (length v.items) (length (slice_set v.items dev y)) old new
+  only_on size = record {
+    count = search rules;
+    sizes = λ e. elim (cases_eq e dev) [
+      | inl here ↦ subst (λ (k : ℕ). (new k).size ≡ (old k).size) (sym here) (at_dev (λ a b. b.size ≡ a.size) size)
+      | inr other ↦ ap (λ o. (device_at (of_lane ghosts) o).size) (get-set_other v.items dev e y other)
+    ];
+    others = λ e other. subst (λ o. Stays (old e) (device_at (of_lane ghosts) o)) (sym (get-set_other v.items dev e y other)) (stays (old e));
+  }
+
+  pub called : IfErr result (λ e. Refused e x.journal y.journal) → HasLaneCause (ghosts.faults x.device) (ghosts.faults y.device) result
+      → Elapses (ghosts.moment x.device) (ghosts.moment y.device) (ghosts.left_since x.device) (ghosts.left_since y.device) (ghosts.may_leave y.device)
+      → ((o : Option (List ℕ)) → Keeps o x.journal (ghosts.told x.device) → Keeps o y.journal (ghosts.told y.device)) → Called (old dev) (new dev) result
+  called err cause time keeps = at_dev (λ a b. Called a b result) (record {
+    err = err;
+    cause = cause;
+    time = time;
+    keeps = λ o. told_on x.journal y.journal (λ j. Keeps o j (ghosts.told x.device)) (λ j. Keeps o j (ghosts.told y.device)) (keeps o);
+  })
+
+  pub unwritten : ghosts.told y.device ≡ ghosts.told x.device → NoMore (ghosts.may_leave x.device) (ghosts.may_leave y.device) → Unwritten (old dev) (new dev)
+  unwritten told crash = at_dev Unwritten (record { told = told; crash = crash })
+
+  pub written : (at : ℕ) (bytes : List ℕ) → OnOk result (ghosts.told y.device ≡ option_map (over at bytes) (ghosts.told x.device))
+      → OnErr result (BothTold (Torn at bytes) (ghosts.told x.device) (ghosts.told y.device))
+      → Follows (Torn at bytes) (ghosts.may_leave x.device) (ghosts.may_leave y.device) → Written at bytes (old dev) (new dev) result
+  written at bytes done torn crash = at_dev (λ a b. Written at bytes a b result) (record { done = done; torn = torn; crash = crash })
+
+  pub durable : OnOk result (Told (ghosts.told x.device) (λ b. Only b (ghosts.may_leave y.device))) → OnOk result (Told (old dev).told (λ b. Only b (new dev).may_leave))
+  durable fact = at_dev (λ a b. OnOk result (Told a.told (λ c. Only c b.may_leave))) fact

@@ -1,57 +1,93 @@
--- A set of devices with journals: what stays of a device that a call is not for, and a list of lanes as such a set.
-use Rattle.std.specs.Prelude.{◌≡◌, ℕ, ◌≤◌, List, length, Option, None, Some}
-use Rattle.zs_io.specs.Told.{AreBytes}
-use Rattle.zs_io.specs.Crash.{NoMore}
+-- A set of devices with journals: what it tells of each of them, what a call on one of them leaves, and a list of lanes as such a set.
+use Rattle.std.specs.Prelude.{◌≡◌, ◌≢◌, ℕ, List, [], ◌∷◌, ◌++◌, Option, None, Some, option_map, Result, IfErr, OnOk, OnErr}
+use Rattle.zs_io.specs.Told.{Told, BothTold, Torn, over}
+use Rattle.zs_io.specs.Crash.{Follows, NoMore, Elapses}
+use Rattle.zs_io.specs.declared.device.Device.{Ghosts}
+use Rattle.zs_lane.specs.declared.mark.Mark.{Mark}
+use Rattle.zs_lane.specs.declared.fault.LaneFault.{LaneFault}
+use Rattle.zs_lane.specs.Journal.{Keeps}
+use Rattle.zs_lane.specs.Lane.{LaneView, Refused, HasLaneCause}
 
--- what a crash may leave now, and might have left since a moment, is as it was
-pub record Stays (before now : ℕ) (past since : ℕ → List ℕ → Type 0) (old new : List ℕ → Type 0) : Type 0 where
-  pub moment : now ≡ before
-  pub no_more : NoMore old new
-  pub no_less : NoMore new old
-  pub since_no_more : (t : ℕ) (c : List ℕ) → since t c → past t c
-  pub since_no_less : (t : ℕ) (c : List ℕ) → past t c → since t c
+-- what a set tells of one device
+pub record DeviceView : Type 1 where
+  -- in bytes
+  pub size : ℕ
+  -- its marks, and its bytes as they read, where they are told
+  pub journal : Option (List Mark)
+  pub told : Option (List ℕ)
+  -- the images that a crash may leave at this moment
+  pub may_leave : List ℕ → Type 0
+  -- a number that does not fall
+  pub moment : ℕ
+  -- the images that a crash might have left at some moment from that one on
+  pub left_since : ℕ → List ℕ → Type 0
+  -- how often a call on it has failed
+  pub faults : ℕ
 
--- f of the lane, or this where there is none
-abbrev pub of_lane : {L X : Type 0} → X → (L → X) → Option L → X
-of_lane none f None = none
-of_lane none f (Some lane) = f lane
+-- The device is as it was, and so is what a crash may leave of it and might have left since a moment.
+pub record Stays (old new : DeviceView) : Type 0 where
+  pub journal : new.journal ≡ old.journal
+  pub told : new.told ≡ old.told
+  pub faults : new.faults ≡ old.faults
+  pub moment : new.moment ≡ old.moment
+  pub no_more : NoMore old.may_leave new.may_leave
+  pub no_less : NoMore new.may_leave old.may_leave
+  pub since_no_more : (t : ℕ) (c : List ℕ) → new.left_since t c → old.left_since t c
+  pub since_no_less : (t : ℕ) (c : List ℕ) → old.left_since t c → new.left_since t c
 
--- P of the lane, which there is
-abbrev pub AtLane : {L : Type 0} → (L → Type 0) → Option L → Type 0
-AtLane P None = ⊥
-AtLane P (Some lane) = P lane
+-- What a call on one device leaves of the set: the number of devices, every size, and the other devices.
+pub record OnlyOn (dev count_old count_new : ℕ) (old new : ℕ → DeviceView) : Type 0 where
+  pub count : count_new ≡ count_old
+  pub sizes : (e : ℕ) → (new e).size ≡ (old e).size
+  pub others : (e : ℕ) → e ≢ dev → Stays (old e) (new e)
 
--- The laws of a device, of a lane that may be missing.
-module _ {L : Type 0} where
-  pub at_told : (size : L → ℕ) (told : L → Option (List ℕ)) (leaves : L → List ℕ → Type 0)
-      → ((l : L) (b : List ℕ) → told l ≡ Some b → (length b ≡ size l) × leaves l b)
-      → (o : Option L) (b : List ℕ) → of_lane None told o ≡ Some b → (length b ≡ of_lane 0 size o) × AtLane (λ l. leaves l b) o
-  at_told size told leaves law None b is = absurd cc
-  at_told size told leaves law (Some l) b is = law l b is
+-- What each call leaves of its own device, whether it is done or refused.
+pub record Called {T : Type 0} (old new : DeviceView) (result : Result T LaneFault) : Type 0 where
+  pub err : IfErr result (λ e. BothTold (Refused e) old.journal new.journal)
+  pub cause : HasLaneCause old.faults new.faults result
+  pub time : Elapses old.moment new.moment old.left_since new.left_since new.may_leave
+  -- a journal that was lawful is so still, whatever bytes the device was opened with
+  pub keeps : (o : Option (List ℕ)) → Told old.journal (λ j. Keeps o j old.told) → Told new.journal (λ j. Keeps o j new.told)
 
-  pub at_fit : (size : L → ℕ) (leaves : L → List ℕ → Type 0) → ((l : L) (c : List ℕ) → leaves l c → length c ≡ size l)
-      → (o : Option L) (c : List ℕ) → AtLane (λ l. leaves l c) o → length c ≡ of_lane 0 size o
-  at_fit size leaves law None c left = absurd left
-  at_fit size leaves law (Some l) c left = law l c left
+-- the journal has this mark more, where it is told
+abbrev pub Marked : Mark → DeviceView → DeviceView → Type 0
+Marked mark old new = new.journal ≡ option_map (λ j. j ++ mark ∷ []) old.journal
 
-  pub at_bytes : (leaves : L → List ℕ → Type 0) → ((l : L) (c : List ℕ) → leaves l c → AreBytes c)
-      → (o : Option L) (c : List ℕ) → AtLane (λ l. leaves l c) o → AreBytes c
-  at_bytes leaves law None c left = absurd left
-  at_bytes leaves law (Some l) c left = law l c left
+-- A call that writes nothing: the bytes stay, and a crash leaves nothing that it could not leave before.
+pub record Unwritten (old new : DeviceView) : Type 0 where
+  pub told : new.told ≡ old.told
+  pub crash : NoMore old.may_leave new.may_leave
 
-  pub at_past : (since : L → ℕ → List ℕ → Type 0) → ((l : L) (t : ℕ) (c : List ℕ) → since l t c → AreBytes c)
-      → (o : Option L) (t : ℕ) (c : List ℕ) → AtLane (λ l. since l t c) o → AreBytes c
-  at_past since law None t c left = absurd left
-  at_past since law (Some l) t c left = law l t c left
+-- A call that writes these bytes from `at` on.
+pub record Written {T : Type 0} (at : ℕ) (bytes : List ℕ) (old new : DeviceView) (result : Result T LaneFault) : Type 0 where
+  pub done : OnOk result (new.told ≡ option_map (over at bytes) old.told)
+  pub torn : OnErr result (BothTold (Torn at bytes) old.told new.told)
+  -- either way
+  pub crash : Follows (Torn at bytes) old.may_leave new.may_leave
 
-  pub at_now : (moment : L → ℕ) (leaves : L → List ℕ → Type 0) (since : L → ℕ → List ℕ → Type 0)
-      → ((l : L) (t : ℕ) (c : List ℕ) → t ≤ moment l → leaves l c → since l t c)
-      → (o : Option L) (t : ℕ) (c : List ℕ) → t ≤ of_lane 0 moment o → AtLane (λ l. leaves l c) o → AtLane (λ l. since l t c) o
-  at_now moment leaves since law None t c le left = absurd left
-  at_now moment leaves since law (Some l) t c le left = law l t c le left
+-- a lane as one device of a set
+abbrev pub of_lane : {D : Type 0} → Ghosts D → LaneView D → DeviceView
+of_lane dev lane = record {
+  size = dev.size lane.device;
+  journal = Some lane.journal;
+  told = dev.told lane.device;
+  may_leave = dev.may_leave lane.device;
+  moment = dev.moment lane.device;
+  left_since = dev.left_since lane.device;
+  faults = dev.faults lane.device;
+}
 
-  pub at_only : (moment : L → ℕ) (leaves : L → List ℕ → Type 0) (since : L → ℕ → List ℕ → Type 0)
-      → ((l : L) (c : List ℕ) → since l (moment l) c → leaves l c)
-      → (o : Option L) (c : List ℕ) → AtLane (λ l. since l (of_lane 0 moment o) c) o → AtLane (λ l. leaves l c) o
-  at_only moment leaves since law None c left = absurd left
-  at_only moment leaves since law (Some l) c left = law l c left
+-- what is told of a device that is not there
+abbrev pub absent : DeviceView
+absent = record { size = 0; journal = None; told = None; may_leave = λ c. ⊥; moment = 0; left_since = λ t c. ⊥; faults = 0 }
+
+-- the lane as a device, where there is one
+abbrev pub device_at : {L : Type 0} → (L → DeviceView) → Option L → DeviceView
+device_at view None = absent
+device_at view (Some lane) = view lane
+
+-- what holds of each lane, and of a device that is not there
+pub at_each : {L : Type 0} {view : L → DeviceView} (P : DeviceView → Type 0) → P absent → ((l : L) → P (view l))
+    → (o : Option L) → P (device_at view o)
+at_each P none each None = none
+at_each P none each (Some l) = each l

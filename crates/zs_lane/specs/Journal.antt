@@ -1,5 +1,6 @@
 -- When a journal of device calls is lawful: what it says was read is what was last written, or what stood there at first.
-use Rattle.std.specs.Prelude.{◌≡◌, ℕ, ◌+◌, ◌≤◌, Bool, List, [], ◌∷◌, ◌==◌, ◌&&◌, nat_lt, min, max, length, take, slice_get, slice_range, Option, Some, is_some, if◌then◌else◌}
+use Rattle.std.specs.Prelude.{◌≡◌, ℕ, ◌+◌, ◌≤◌, Bool, List, [], ◌∷◌, ◌==◌, ◌&&◌, nat_lt, min, max, length, take}
+use Rattle.std.specs.Prelude.{slice_get, slice_range, Option, Some, is_some, if◌then◌else◌}
 use Rattle.zs_sum.specs.Sum.{sha256}
 use Rattle.zs_lane.specs.declared.mark.Mark.{Mark}
 use Rattle.zs_lane.specs.declared.mark.Mark.TheVariants.{Read, Wrote, Synced, Failed}

@@ -1,5 +1,6 @@
 // A device with a journal of its calls.
-ghost use Rattle.std.specs.Prelude.{◌≡◌, ◌≤◌, ◌+◌, ◌∷◌, ◌++◌, [], List, ℕ, Option, length, option_map, slice_range, vec_len, vec_capacity, IfOk, OnOk, IfErr, OnErr, IsErrOf};
+ghost use Rattle.std.specs.Prelude.{◌≡◌, ◌≤◌, ◌+◌, ◌∷◌, ◌++◌, [], List, ℕ, Option, length, option_map};
+ghost use Rattle.std.specs.Prelude.{slice_range, vec_len, vec_capacity, IfOk, OnOk, IfErr, OnErr, IsErrOf};
 ghost use Rattle.zs_io.specs.Told.{Told, BothTold, Torn, over};
 ghost use Rattle.zs_io.specs.Crash.{Follows, NoMore, Only, Elapses};
 ghost use Rattle.zs_sum.specs.Sum.{sha256};

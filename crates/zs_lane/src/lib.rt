@@ -1,8 +1,9 @@
 //! Lanes: devices with a journal of what was read, written and synced, and sets of them.
 //!
 //! Layer: above `zs_io` and `zs_sum`.
-//! Model: a lane is seen as its device and its list of marks (`LaneView`). A set of lanes (`Children`) is seen through
-//! functions of the device's number: size, count of faults and, where the set tells them, journal, bytes and crash images.
+//! Model: a lane is seen as its device and its list of marks (`LaneView`). A set of lanes (`Children`) is seen as the
+//! number of its devices and, by a device's number, what it tells of that device: size, count of faults, crash images and,
+//! where it tells them, journal and bytes (`DeviceView`, in specs/Children, with what a call on one device leaves of the set).
 //! Promise: a call that does not want memory adds just one mark, and answers its place; after want of memory lane and
 //! device are as before. `Failed` comes only where the device's count of faults rose. The journal is lawful: the sum of a
 //! read is that of the last write of its range, or of the bytes at the opening where nothing touched the range

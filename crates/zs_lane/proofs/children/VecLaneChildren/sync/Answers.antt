@@ -1,71 +1,17 @@
-use Rattle.std.proofs.Common.{◌≡◌, ◌∙◌, Some, slice_set, sym, refl, ap}
-use Rattle.std.specs.List.{slice_get}
-use Rattle.zs_lane.specs.Journal.{Keeps}
-use Rattle.zs_lane.proofs.Set.{get-set_same, get-set_other, was_at, sizes_at, with_item_same, told_on, time_at, stays_at}
+use Rattle.zs_lane.proofs.Set.{durable, unwritten, called, unchanged, only_on}
 use Rattle.zs_lane.proofs.children.VecLaneChildren.sync.Goals as goal
 
 pub returns-clause-durable : goal.returns-clause-durable
-returns-clause-durable g c =
-    let was : slice_get c.args.self.now.items c.args.dev ≡ Some c.index_mut-lane.result.now = was_at _ _ _ c.sync.new.self c.requires c.index_mut-lane.ensures.value in
-    let is : slice_get (slice_set c.args.self.now.items c.args.dev c.sync.new.self) c.args.dev ≡ Some c.sync.new.self = get-set_same _ _ _ c.requires in
-    rw (was, is) c.sync.ensures.durable
+returns-clause-durable g c = durable g.D.Device c.args.self.now _ _ c.sync.new.self c.requires c.index_mut-lane.ensures.value c.sync.result c.sync.ensures.durable
 
-pub returns-clause-err : goal.returns-clause-err
-returns-clause-err g c =
-    let was : slice_get c.args.self.now.items c.args.dev ≡ Some c.index_mut-lane.result.now = was_at _ _ _ c.sync.new.self c.requires c.index_mut-lane.ensures.value in
-    let is : slice_get (slice_set c.args.self.now.items c.args.dev c.sync.new.self) c.args.dev ≡ Some c.sync.new.self = get-set_same _ _ _ c.requires in
-    rw (was, is) c.sync.ensures.err
+pub returns-clause-unwritten : goal.returns-clause-unwritten
+returns-clause-unwritten g c = unwritten g.D.Device c.args.self.now _ _ c.sync.new.self c.requires c.index_mut-lane.ensures.value c.sync.result c.sync.ensures.told c.sync.ensures.crash
 
-pub returns-clause-cause : goal.returns-clause-cause
-returns-clause-cause g c =
-    let was : slice_get c.args.self.now.items c.args.dev ≡ Some c.index_mut-lane.result.now = was_at _ _ _ c.sync.new.self c.requires c.index_mut-lane.ensures.value in
-    let is : slice_get (slice_set c.args.self.now.items c.args.dev c.sync.new.self) c.args.dev ≡ Some c.sync.new.self = get-set_same _ _ _ c.requires in
-    rw (was, is) c.sync.ensures.cause
-
-pub returns-clause-told : goal.returns-clause-told
-returns-clause-told g c =
-    let was : slice_get c.args.self.now.items c.args.dev ≡ Some c.index_mut-lane.result.now = was_at _ _ _ c.sync.new.self c.requires c.index_mut-lane.ensures.value in
-    let is : slice_get (slice_set c.args.self.now.items c.args.dev c.sync.new.self) c.args.dev ≡ Some c.sync.new.self = get-set_same _ _ _ c.requires in
-    rw (was, is) c.sync.ensures.told
-
-pub returns-clause-crash : goal.returns-clause-crash
-returns-clause-crash g c =
-    let was : slice_get c.args.self.now.items c.args.dev ≡ Some c.index_mut-lane.result.now = was_at _ _ _ c.sync.new.self c.requires c.index_mut-lane.ensures.value in
-    let is : slice_get (slice_set c.args.self.now.items c.args.dev c.sync.new.self) c.args.dev ≡ Some c.sync.new.self = get-set_same _ _ _ c.requires in
-    rw (was, is) c.sync.ensures.crash
+pub returns-clause-call : goal.returns-clause-call
+returns-clause-call g c = called g.D.Device c.args.self.now _ _ c.sync.new.self c.requires c.index_mut-lane.ensures.value c.sync.result c.sync.ensures.err c.sync.ensures.cause c.sync.ensures.time c.sync.ensures.keeps
 
 pub returns-clause-memory : goal.returns-clause-memory
-returns-clause-memory g c failed =
-    let was : slice_get c.args.self.now.items c.args.dev ≡ Some c.index_mut-lane.result.now = was_at _ _ _ c.sync.new.self c.requires c.index_mut-lane.ensures.value in
-    with_item_same c.args.self.now c.args.dev c.sync.new.self (was ∙ ap (λ l. Some l) (sym (c.sync.ensures.memory failed)))
+returns-clause-memory g c failed = unchanged g.D.Device c.args.self.now _ _ c.sync.new.self c.requires c.index_mut-lane.ensures.value c.sync.result (c.sync.ensures.memory failed)
 
-pub returns-clause-time : goal.returns-clause-time
-returns-clause-time g c =
-    let was : slice_get c.args.self.now.items c.args.dev ≡ Some c.index_mut-lane.result.now = was_at _ _ _ c.sync.new.self c.requires c.index_mut-lane.ensures.value in
-    let is : slice_get (slice_set c.args.self.now.items c.args.dev c.sync.new.self) c.args.dev ≡ Some c.sync.new.self = get-set_same _ _ _ c.requires in
-    time_at (λ l. g.D.Device.moment l.device) (λ l. g.D.Device.left_since l.device) (λ l. g.D.Device.may_leave l.device) _ _ c.index_mut-lane.result.now c.sync.new.self was is c.sync.ensures.time
-
-pub returns-clause-keeps : goal.returns-clause-keeps
-returns-clause-keeps g c o =
-    let was : slice_get c.args.self.now.items c.args.dev ≡ Some c.index_mut-lane.result.now = was_at _ _ _ c.sync.new.self c.requires c.index_mut-lane.ensures.value in
-    let is : slice_get (slice_set c.args.self.now.items c.args.dev c.sync.new.self) c.args.dev ≡ Some c.sync.new.self = get-set_same _ _ _ c.requires in
-    rw (was, is) (told_on c.index_mut-lane.result.now.journal c.sync.new.self.journal
-    (λ j. Keeps o j (g.D.Device.told c.index_mut-lane.result.now.device)) (λ j. Keeps o j (g.D.Device.told c.sync.new.self.device)) (c.sync.ensures.keeps o))
-
-pub returns-clause-sizes : goal.returns-clause-sizes
-returns-clause-sizes g c =
-    sizes_at c.args.self.now.items c.args.dev c.index_mut-lane.result.now c.sync.new.self c.requires c.index_mut-lane.ensures.value (λ l. g.D.Device.size l.device) c.sync.ensures.size
-
-pub returns-clause-journals : goal.returns-clause-journals
-returns-clause-journals g c e ne = rw get-set_other refl
-
-pub returns-clause-tolds : goal.returns-clause-tolds
-returns-clause-tolds g c e ne = rw get-set_other refl
-
-pub returns-clause-counts : goal.returns-clause-counts
-returns-clause-counts g c e ne = rw get-set_other refl
-
-pub returns-clause-crashes : goal.returns-clause-crashes
-returns-clause-crashes g c e ne =
-    let other : slice_get (slice_set c.args.self.now.items c.args.dev c.sync.new.self) e ≡ slice_get c.args.self.now.items e = get-set_other _ _ _ _ ne in
-    stays_at (λ l. g.D.Device.moment l.device) (λ l. g.D.Device.left_since l.device) (λ l. g.D.Device.may_leave l.device) _ _ other
+pub returns-clause-only : goal.returns-clause-only
+returns-clause-only g c = only_on g.D.Device c.args.self.now _ _ c.sync.new.self c.requires c.index_mut-lane.ensures.value c.sync.result c.sync.ensures.size

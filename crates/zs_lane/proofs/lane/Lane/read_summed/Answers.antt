@@ -1,4 +1,4 @@
-use Rattle.std.proofs.Common.{◌≡◌, ℕ, ◌+◌, ◌∙◌, ap, sym, length, arith}
+use Rattle.std.proofs.Common.{◌≡◌, ℕ, ◌+◌, ◌∙◌, ap, is_some, sym, length, arith}
 use Rattle.std.specs.List.{slice_range}
 use Rattle.zs_sum.specs.Sum.{sha256}
 use Rattle.zs_lane.specs.declared.mark.Mark.TheVariants.{Read, Failed}
@@ -21,4 +21,4 @@ pub returns-in-Err-Failed-clause-keeps : goal.returns-in-Err-Failed-clause-keeps
 returns-in-Err-Failed-clause-keeps g c o keeps =
     after_failure o c.args.self.now.journal c.add-in-Err-Failed.new.journal.items (g.D.Device.told c.args.self.now.device) (g.D.Device.told c.read_at.new.self) keeps
     (pushed _ _ _ Failed c.self.inside.journal.items c.add-in-Err-Failed.ensures c.room.ensures.items (ap (λ l. l.journal) c.self.view_is))
-    (c.in-Err-Failed.ensures.told ∙ ap (λ l. g.D.Device.told l.device) c.self.view_is)
+    (ap is_some (sym (c.in-Err-Failed.ensures.told ∙ ap (λ l. g.D.Device.told l.device) c.self.view_is)))

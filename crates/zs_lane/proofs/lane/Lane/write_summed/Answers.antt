@@ -1,7 +1,7 @@
 use Rattle.std.proofs.Common.{◌∙◌, ap, subst, length, arith, option_map}
 use Rattle.zs_io.specs.Told.{Torn, BothTold, over}
 use Rattle.zs_lane.specs.declared.mark.Mark.TheVariants.{Wrote, Failed}
-use Rattle.zs_lane.proofs.Keep.{pushed, after_write, after_torn}
+use Rattle.zs_lane.proofs.Keep.{pushed, tells_as, after_write, after_failure}
 use Rattle.zs_lane.proofs.lane.Lane.write_summed.Goals as goal
 
 pub returns-in-Ok-clause-keeps : goal.returns-in-Ok-clause-keeps
@@ -15,7 +15,7 @@ returns-in-Ok-clause-keeps g c o keeps =
 
 pub returns-in-Err-Failed-clause-keeps : goal.returns-in-Err-Failed-clause-keeps
 returns-in-Err-Failed-clause-keeps g c o keeps =
-    after_torn o c.args.self.now.journal c.add-in-Err-Failed.new.journal.items (g.D.Device.told c.args.self.now.device) (g.D.Device.told c.write_at.new.self) keeps
+    after_failure o c.args.self.now.journal c.add-in-Err-Failed.new.journal.items (g.D.Device.told c.args.self.now.device) (g.D.Device.told c.write_at.new.self) keeps
     (pushed _ _ _ Failed c.self.inside.journal.items c.add-in-Err-Failed.ensures c.room.ensures.items (ap (λ l. l.journal) c.self.view_is))
-    (Torn c.args.at c.args.bytes.now)
-    (subst (λ l. BothTold (Torn c.args.at c.args.bytes.now) (g.D.Device.told l.device) (g.D.Device.told c.write_at.new.self)) c.self.view_is c.in-Err-Failed.ensures.torn)
+    (tells_as (g.D.Device.told c.args.self.now.device) (g.D.Device.told c.write_at.new.self) (Torn c.args.at c.args.bytes.now)
+    (subst (λ l. BothTold (Torn c.args.at c.args.bytes.now) (g.D.Device.told l.device) (g.D.Device.told c.write_at.new.self)) c.self.view_is c.in-Err-Failed.ensures.torn))
