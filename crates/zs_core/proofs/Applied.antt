@@ -15,7 +15,7 @@ use Rattle.zs_ids.specs.GraphChange.{MayApply, applied}
 use Rattle.zs_txg.specs.declared.staged.Staging.{Staging}
 use Rattle.zs_txg.specs.Txg.{Slot, slot_cmp, staged_for, staged_at}
 use Rattle.zs_txg.proofs.Slots.{slot_total, same_slot, key_total}
-use Rattle.zs_core.specs.Steps.{all_replaced, AreChanges}
+use Rattle.zs_machine.specs.Steps.{all_replaced, AreChanges}
 use Rattle.zs_core.specs.Placed.{head_of, headed, room_of, IsFormed, IsWhole, HasAt, AreFormed, AreStaged, Meet, LiesBetween, ArePlaced, AreBothPlaced}
 use Rattle.zs_core.specs.Placed.IsFormed.{root, dnodes, leaf}
 use Rattle.zs_core.proofs.Inserting.{at_some, at_key}

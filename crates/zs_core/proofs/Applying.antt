@@ -28,7 +28,7 @@ use Rattle.zs_txg.proofs.Order.{keys_rise}
 use Rattle.zs_txg.proofs.Entries.{sorted-insert_entry}
 use Rattle.zs_txg.proofs.Slots.{same_slot, key_total}
 use Rattle.zs_objset.specs.Staged.{pointers_of, block_of, level_of, over}
-use Rattle.zs_core.specs.Steps.{all_replaced, AreChanges}
+use Rattle.zs_machine.specs.Steps.{all_replaced, AreChanges}
 use Rattle.zs_core.specs.Placed.{head_of, headed, AreStaged}
 use Rattle.zs_core.proofs.Inserting.{from_put, put_new, put_old}
 

@@ -29,9 +29,9 @@ use Rattle.zs_scan.specs.Walks.{item_of}
 use Rattle.zs_scan.specs.Covered.{IsOfBlock}
 use Rattle.zs_scan.proofs.Pieces.{same_itself}
 use Rattle.zs_core.specs.declared.parts.Head.{Head}
-use Rattle.zs_core.specs.Steps.{all_replaced, AreChanges}
+use Rattle.zs_machine.specs.Steps.{all_replaced, AreChanges}
 use Rattle.zs_core.specs.Placed.{head_of, headed, AreFormed, AreStaged, ArePlaced}
-use Rattle.zs_core.specs.Born.{AreBornItems}
+use Rattle.zs_machine.specs.Born.{AreBornItems}
 use Rattle.zs_core.specs.Synced.{AreItemsOf}
 use Rattle.zs_core.specs.View.{graph_of, entries_in}
 use Rattle.zs_core.specs.Kept.{IsHead, IsHeadKept, AreChangesOf, IsPutIn}

@@ -10,7 +10,7 @@ use Rattle.zs_ids.specs.declared.dataset.Name.{Name}
 use Rattle.zs_ids.specs.Graph.{Dataset, Graph, Has}
 use Rattle.zs_ids.specs.GraphValid.{Room, Valid, IsTree, HasBlocks, HasAtMost, origin}
 use Rattle.zs_ids.specs.GraphChange.{MayClone, with_fs}
-use Rattle.zs_core.specs.Steps.{origin as first, no_name}
+use Rattle.zs_machine.specs.Steps.{origin as first, no_name}
 use Rattle.zs_core.specs.Placed.{headed}
 
 -- a graph of just the origin

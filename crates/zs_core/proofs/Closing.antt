@@ -7,7 +7,7 @@ use Rattle.zs_txg.specs.declared.staged.Staging.{Staging}
 use Rattle.zs_txg.specs.Txg.{Slot, Open}
 use Rattle.zs_objset.specs.declared.block.StagedBlock.{StagedBlock}
 use Rattle.zs_objset.specs.Staged.{pointers_of}
-use Rattle.zs_core.specs.declared.event.Stage.TheVariants.{Between}
+use Rattle.zs_machine.specs.declared.event.Stage.TheVariants.{Between}
 use Rattle.zs_core.specs.declared.parts.Head.{Head}
 use Rattle.zs_core.specs.declared.parts.Closed.{Closed}
 use Rattle.zs_core.specs.View.{AreHeadsBlocks}

@@ -17,7 +17,7 @@ use Rattle.zs_phys.specs.Sound.{EndsBy}
 use Rattle.zs_phys.specs.Sound.EndsBy.{past, started, canceled}
 use Rattle.zs_cover.specs.Laws.{IsCovered, StaysDone}
 use Rattle.zs_cover.proofs.Applies.{apply_keeps}
-use Rattle.zs_core.specs.Steps.{all_replaced, AreChanges}
+use Rattle.zs_machine.specs.Steps.{all_replaced, AreChanges}
 use Rattle.zs_core.specs.Placed.{head_of, headed, room_of, AreFormed, AreStaged, ArePlaced}
 use Rattle.zs_core.proofs.Blank.{valid_more}
 use Rattle.zs_core.proofs.Applying.{applied_is}

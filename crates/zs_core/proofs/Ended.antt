@@ -14,11 +14,11 @@ use Rattle.zs_scan.specs.View.{ScanView}
 use Rattle.zs_scan.specs.Covered.{IsScanOf}
 use Rattle.zs_scan.specs.Steps.{IsComplete}
 use Rattle.zs_script.specs.declared.refusal.Refusal.{Refusal}
-use Rattle.zs_core.specs.declared.event.Stage.TheVariants.{Labelling}
+use Rattle.zs_machine.specs.declared.event.Stage.TheVariants.{Labelling}
 use Rattle.zs_core.specs.declared.parts.Head.{Head}
-use Rattle.zs_core.specs.Machine.{PoolState, Data, Txg}
-use Rattle.zs_core.specs.Replies.{after_tasks, task_answers}
-use Rattle.zs_core.specs.Steps.{EndStep, after_data}
+use Rattle.zs_machine.specs.Machine.{PoolState, Data, Txg}
+use Rattle.zs_machine.specs.Replies.{after_tasks, task_answers}
+use Rattle.zs_machine.specs.Steps.{EndStep, after_data}
 use Rattle.zs_core.specs.View.{graph_of, next_id_of, data_of, scan_of}
 use Rattle.zs_core.specs.Kept.{IsPutIn, born_by}
 use Rattle.zs_core.specs.Freeing.{FreesAll}

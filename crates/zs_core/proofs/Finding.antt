@@ -6,11 +6,11 @@ use Rattle.std.proofs.lemmas.Bool.{true≢false}
 use Rattle.std.proofs.Math.Seq.{drop-cons, take-append_seam, drop-append_seam, get_or-append_seam}
 use native.Mathlib.Numerals.{add-one}
 use Rattle.zs_ids.specs.Graph.{Has}
-use Rattle.zs_core.specs.declared.event.ReadPlan.{ReadPlan}
-use Rattle.zs_core.specs.declared.parts.OpenRead.{OpenRead}
+use Rattle.zs_machine.specs.declared.event.ReadPlan.{ReadPlan}
+use Rattle.zs_machine.specs.declared.event.OpenRead.{OpenRead}
 use Rattle.zs_script.specs.declared.reply.Reply.{Reply}
-use Rattle.zs_core.specs.Machine.{PoolState}
-use Rattle.zs_core.specs.Steps.{IsReadAnswer, ReadEndStep}
+use Rattle.zs_machine.specs.Machine.{PoolState}
+use Rattle.zs_machine.specs.Steps.{IsReadAnswer, ReadEndStep}
 use Rattle.zs_core.specs.Reading.{HasNoRead, IsFirstRead, EndsRead, read_reply}
 
 -- none of the first i reads is the client's with the plan

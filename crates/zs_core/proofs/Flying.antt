@@ -11,10 +11,11 @@ use Rattle.zs_ids.specs.declared.block.Item.{Item}
 use Rattle.zs_scan.specs.View.{ScanView, pieces_in}
 use Rattle.zs_scan.specs.Steps.{Taken, AreOf, IsVerdict, Judged}
 use Rattle.zs_cover.proofs.Lists.{has-map, from-filter}
-use Rattle.zs_core.specs.declared.event.Event.{Event}
-use Rattle.zs_core.specs.declared.event.Step.{Step}
-use Rattle.zs_core.specs.declared.event.Step.TheVariants as step
-use Rattle.zs_core.specs.Flight.{Flying, FlyAsTold, flying_of, flying_after, in_flight, with_batch, without_batch, landed, IsOfFlight}
+use Rattle.zs_machine.specs.declared.event.Event.{Event}
+use Rattle.zs_machine.specs.declared.event.Step.{Step}
+use Rattle.zs_machine.specs.declared.event.Step.TheVariants as step
+use Rattle.zs_machine.specs.Flight.{Flying, flying_after, in_flight, with_batch, without_batch, landed, IsOfFlight}
+use Rattle.zs_core.specs.FlightTold.{FlyAsTold, flying_of}
 
 -- one event more is one step more
 pub flight_push : (es : List Event) (e : Event) → in_flight (es ++ e ∷ []) ≡ flying_after (in_flight es) e.step

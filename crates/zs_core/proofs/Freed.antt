@@ -18,7 +18,7 @@ use Rattle.zs_scan.specs.declared.batch.Batch.{Batch}
 use Rattle.zs_scan.specs.View.{Mark, ScanView, mark_of, is_done}
 use Rattle.zs_scan.specs.Kept.{IsOrderly}
 use Rattle.zs_scan.specs.Covered.{IsOfBlock, AreLive, IsScanOf}
-use Rattle.zs_core.specs.Steps.{all_replaced, AreChanges}
+use Rattle.zs_machine.specs.Steps.{all_replaced, AreChanges}
 use Rattle.zs_core.specs.Placed.{head_of, headed, room_of, AreFormed, AreStaged, ArePlaced}
 use Rattle.zs_core.specs.Freeing.{first_piece, replaced_by, is_one_of, FreesAll}
 use Rattle.zs_core.specs.Synced.{AreGone}

@@ -8,7 +8,7 @@ use Rattle.zs_ids.specs.Graph.{Graph}
 use Rattle.zs_txg.specs.declared.staged.Staging.{Staging}
 use Rattle.zs_txg.specs.Txg.{Slot}
 use Rattle.zs_core.specs.declared.parts.Head.{Head}
-use Rattle.zs_core.specs.Steps.{all_replaced}
+use Rattle.zs_machine.specs.Steps.{all_replaced}
 use Rattle.zs_core.specs.Placed.{headed}
 use Rattle.zs_core.specs.Freeing.{replaced_in}
 use Rattle.zs_core.specs.Synced.{AreGone}

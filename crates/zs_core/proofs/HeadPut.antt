@@ -10,8 +10,8 @@ use Rattle.zs_txg.specs.declared.staged.Staging.{Staging}
 use Rattle.zs_txg.specs.Txg.{Slot, staged_for}
 use Rattle.zs_objset.specs.Staged.{pointers_of}
 use Rattle.zs_core.specs.declared.parts.Head.{Head}
-use Rattle.zs_core.specs.Machine.{Txg}
-use Rattle.zs_core.specs.Steps.{AreWritten, IsWritten, AreChanges, all_replaced}
+use Rattle.zs_machine.specs.Machine.{Txg}
+use Rattle.zs_machine.specs.Steps.{AreWritten, IsWritten, AreChanges, all_replaced}
 use Rattle.zs_core.specs.Placed.{AreFormed, AreStaged, AreBothPlaced}
 use Rattle.zs_core.specs.View.{graph_of, dataset_of, next_id_of}
 use Rattle.zs_core.specs.Kept.{IsHead, IsHeadKept, AreChangesOf, IsPutIn}

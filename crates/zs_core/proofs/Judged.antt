@@ -8,8 +8,8 @@ use Rattle.zs_scan.specs.View.{ScanView}
 use Rattle.zs_scan.specs.Kept.{IsOrderly}
 use Rattle.zs_scan.specs.Steps.{Judged, still_flying}
 use Rattle.zs_scan.specs.Covered.{MayAllBeChecked}
-use Rattle.zs_core.specs.Machine.{PoolState, ScanState, is_running}
-use Rattle.zs_core.specs.Steps.{VerdictStep, with_checked}
+use Rattle.zs_machine.specs.Machine.{PoolState, ScanState, is_running}
+use Rattle.zs_machine.specs.Steps.{VerdictStep, with_checked}
 use Rattle.zs_core.specs.View.{scan_of}
 
 -- entries that may be added one after another are a verdict of the machine, where a scan runs

@@ -28,8 +28,7 @@ pub mod Judged
 pub mod Closing
 pub mod Writing
 pub mod Opening
-pub mod Histories
-pub mod ShapeSizes
+pub mod Due
 pub mod Finding
 pub mod Birth
 pub mod Flying

@@ -3,10 +3,10 @@ use Rattle.std.specs.Prelude.{◌≡◌, ℕ, List, [], ◌∷◌, ◌++◌, ref
 use Rattle.std.proofs.Common.{◌∙◌, ap}
 use Rattle.std.proofs.lemmas.List.Sums.{fold-append}
 use Rattle.zs_script.specs.declared.reply.Reply.{Reply}
-use Rattle.zs_core.specs.declared.event.Event.{Event}
-use Rattle.zs_core.specs.declared.event.Step.{Step}
-use Rattle.zs_core.specs.Told.{with_step, line_steps}
-use Rattle.zs_core.specs.View.{AddsEvent}
+use Rattle.zs_machine.specs.declared.event.Event.{Event}
+use Rattle.zs_machine.specs.declared.event.Step.{Step}
+use Rattle.zs_machine.specs.Told.{with_step, line_steps}
+use Rattle.zs_machine.specs.History.{AddsEvent}
 
 -- none stands open behind an event that opens none
 pub none_open : (by : ℕ) (s : Step) (answer : Reply) (old new : List Event) → AddsEvent by s answer old new → line_steps old ≡ [] → with_step [] (record { by = by; step = s; reply = answer }) ≡ [] → line_steps new ≡ []

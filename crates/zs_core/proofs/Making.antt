@@ -16,7 +16,7 @@ use Rattle.zs_txg.specs.declared.staged.Staging.{Staging}
 use Rattle.zs_txg.specs.Txg.{Slot, slot_cmp, staged_at, put_staged}
 use Rattle.zs_txg.proofs.Entries.{lookup-insert_entry}
 use Rattle.zs_txg.proofs.Slots.{slot_total, same_slot, key_total}
-use Rattle.zs_core.specs.Steps.{staged_once, IsStagedWith, KeepsPlace}
+use Rattle.zs_machine.specs.Steps.{staged_once, IsStagedWith, KeepsPlace}
 use Rattle.zs_core.specs.Placed.{IsFormed, resized, AreFormed, AreStaged, AreBothPlaced, sector_at, next_after, with_root, after_root, with_above, after_above, staged_with, staged_again, place_or}
 use Rattle.zs_core.specs.Placed.IsFormed.{root, dnodes, leaf}
 use Rattle.zs_core.proofs.Inserting.{at_some, at_none}

@@ -4,8 +4,8 @@ use Rattle.std.proofs.Common.{◌∙◌, sym, ap, get_or, add-one, append_assoc}
 use Rattle.std.proofs.Math.Seq.{drop-cons}
 use Rattle.zs_txg.specs.declared.task.Task.{Task}
 use Rattle.zs_script.specs.declared.refusal.Refusal.{Refusal}
-use Rattle.zs_core.specs.Machine.{Data}
-use Rattle.zs_core.specs.Replies.{task_refusal, after_run, task_answers, after_tasks}
+use Rattle.zs_machine.specs.Machine.{Data}
+use Rattle.zs_machine.specs.Replies.{task_refusal, after_run, task_answers, after_tasks}
 
 -- the answers of the tasks that are left are that of the next one and those of the others
 pub answers_next : (t : ℕ) (d e : Data) (tasks : List (ℕ × Task)) (i : ℕ) (default : ℕ × Task) (refusal : Option Refusal) → i < length tasks → refusal ≡ task_refusal d (get_or tasks i default).1 → e ≡ after_run t d (get_or tasks i default).1 → task_answers t d (drop i tasks) ≡ refusal ∷ task_answers t e (drop (i + 1) tasks)

@@ -3,12 +3,12 @@ use Rattle.std.specs.Prelude.{◌≡◌, ℕ, Bool, true, false, List, [], ◌�
 use Rattle.std.proofs.Common.{ap}
 use Rattle.zs_ids.specs.declared.dataset.DsName.{DsName}
 use Rattle.zs_script.specs.declared.reply.Reply.TheVariants as reply
-use Rattle.zs_core.specs.declared.event.ReadPlan.{ReadPlan}
+use Rattle.zs_machine.specs.declared.event.ReadPlan.{ReadPlan}
 use Rattle.zs_core.specs.declared.parts.Head.{Head}
-use Rattle.zs_core.specs.declared.parts.OpenRead.{OpenRead}
-use Rattle.zs_core.specs.Machine.{PoolState, is_named, dataset_named}
-use Rattle.zs_core.specs.Replies.{read_refusal}
-use Rattle.zs_core.specs.Steps.{ReadBeginStep, plan_in}
+use Rattle.zs_machine.specs.declared.event.OpenRead.{OpenRead}
+use Rattle.zs_machine.specs.Machine.{PoolState, is_named, dataset_named}
+use Rattle.zs_machine.specs.Replies.{read_refusal}
+use Rattle.zs_machine.specs.Steps.{ReadBeginStep, plan_in}
 use Rattle.zs_core.specs.View.{graph_of, dataset_of}
 
 named_by : (s : PoolState) (h : Head) (name : DsName) (object leaf : ℕ) → s.graph ≡ graph_of (Some h) → read_refusal s name object leaf ≡ None → (up b : Bool) → s.suspended ≡ up → is_named name (dataset_of h) ≡ b → dataset_named s.graph name ≡ Some (dataset_of h)

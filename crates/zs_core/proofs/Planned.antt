@@ -17,16 +17,16 @@ use Rattle.zs_script.specs.declared.reply.Reply.{Reply}
 use Rattle.zs_script.specs.declared.reply.Reply.TheVariants as reply
 use Rattle.zs_txg.specs.declared.staged.Staging.{Staging}
 use Rattle.zs_txg.proofs.Slots.{key_total}
-use Rattle.zs_core.specs.declared.event.ReadPlan.{ReadPlan}
+use Rattle.zs_machine.specs.declared.event.ReadPlan.{ReadPlan}
 use Rattle.zs_core.specs.declared.parts.Head.{Head}
 use Rattle.zs_core.specs.declared.present.Present.TheInside.{Inside}
 use Rattle.zs_core.specs.Kept.{Facts, IsHeadKept, staged_in, born_by}
-use Rattle.zs_core.specs.Machine.{PoolState, dataset_named}
+use Rattle.zs_machine.specs.Machine.{PoolState, dataset_named}
 use Rattle.zs_core.specs.Placed.{room_of}
 use Rattle.zs_core.specs.Reading.{IsPlanInRoom, IsPlacedAt}
-use Rattle.zs_core.specs.Replies.{read_refusal}
-use Rattle.zs_core.specs.Shapes.{data_start, room_in}
-use Rattle.zs_core.specs.Steps.{ReadBeginStep, plan_from}
+use Rattle.zs_machine.specs.Replies.{read_refusal}
+use Rattle.zs_machine.specs.Shapes.{data_start, room_in}
+use Rattle.zs_machine.specs.Steps.{ReadBeginStep, plan_from}
 use Rattle.zs_core.specs.View.{graph_of, dataset_of}
 use Rattle.zs_core.proofs.Inserting.{at_some}
 use Rattle.zs_core.proofs.Applying.{same_key}

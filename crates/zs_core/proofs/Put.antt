@@ -5,7 +5,7 @@ use Rattle.std.proofs.Math.Seq.{drop-cons}
 use Rattle.zs_ids.specs.declared.key.Key.{Key}
 use Rattle.zs_ids.specs.declared.block.Bp.{Bp}
 use Rattle.zs_ids.specs.Blocks.{replaced}
-use Rattle.zs_core.specs.Steps.{all_replaced}
+use Rattle.zs_machine.specs.Steps.{all_replaced}
 
 -- what is left to put is the next entry and what is left after it
 pub put_more : (m cs : List (Key × Bp)) (i : ℕ) (d : Key × Bp) → i < length cs → all_replaced m (drop i cs) ≡ all_replaced (replaced m (get_or cs i d).0 (get_or cs i d).1) (drop (i + 1) cs)

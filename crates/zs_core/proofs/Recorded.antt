@@ -12,8 +12,8 @@ use Rattle.zs_txg.specs.declared.staged.Staging.{Staging}
 use Rattle.zs_txg.specs.Txg.{Slot, slot_cmp, staged_at, put_staged}
 use Rattle.zs_txg.proofs.Slots.{slot_total, same_slot}
 use Rattle.zs_core.specs.declared.parts.Head.{Head}
-use Rattle.zs_core.specs.Machine.{sectors_from}
-use Rattle.zs_core.specs.Steps.{staged_once}
+use Rattle.zs_machine.specs.Machine.{sectors_from}
+use Rattle.zs_machine.specs.Steps.{staged_once}
 use Rattle.zs_core.specs.Placed.{resized, AreFormed, AreStaged, sector_at, with_root, after_root, with_above, after_above, staged_with, staged_again, place_or}
 use Rattle.zs_core.specs.Kept.{IsHead, sectors_to_stage}
 use Rattle.zs_core.proofs.Inserting.{at_some}

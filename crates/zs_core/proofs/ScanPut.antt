@@ -14,7 +14,7 @@ use Rattle.zs_scan.specs.Kept.{IsOrderly}
 use Rattle.zs_scan.specs.Covered.{AreLive, IsScanOf}
 use Rattle.zs_core.specs.declared.parts.Head.{Head}
 use Rattle.zs_core.specs.declared.present.Present.TheInside.{Inside}
-use Rattle.zs_core.specs.Steps.{all_replaced}
+use Rattle.zs_machine.specs.Steps.{all_replaced}
 use Rattle.zs_core.specs.Placed.{headed, room_of}
 use Rattle.zs_core.specs.Freeing.{replaced_in, FreesAll}
 use Rattle.zs_core.specs.View.{graph_of, entries_in}

@@ -16,7 +16,7 @@ use Rattle.zs_core.specs.declared.parts.Head.{Head}
 use Rattle.zs_core.specs.declared.present.Present.TheInside.{Inside}
 use Rattle.zs_core.specs.Kept.{Facts, born_by}
 use Rattle.zs_core.specs.Placed.{room_of}
-use Rattle.zs_core.specs.Shapes.{data_start}
+use Rattle.zs_machine.specs.Shapes.{data_start}
 use Rattle.zs_core.specs.View.{graph_of}
 
 -- the limit and the width of a scan are those of another

@@ -14,12 +14,12 @@ use Rattle.zs_txg.specs.Txg.{Slot, Open, staged_for, entry_of, entries_for}
 use Rattle.zs_objset.specs.declared.block.StagedBlock.{StagedBlock}
 use Rattle.zs_objset.specs.Staged.{block_of, pointers_of, size_of, over, AreBlocksOf, AreSized}
 use Rattle.zs_core.specs.declared.parts.Head.{Head}
-use Rattle.zs_core.specs.declared.shape.Shape.{Shape}
+use Rattle.zs_machine.specs.declared.shape.Shape.{Shape}
 use Rattle.zs_core.specs.Placed.{LiesBetween, room_of}
-use Rattle.zs_core.specs.Shapes.{data_start, room_in}
+use Rattle.zs_machine.specs.Shapes.{data_start, room_in}
 use Rattle.zs_core.specs.View.{AreHeadsBlocks, graph_of, txg_of}
 use Rattle.zs_core.specs.Kept.{IsHead, IsHeadKept}
-use Rattle.zs_core.specs.Writes.{AreStagedBlocks, IsBlockInRoom, AreInRoom}
+use Rattle.zs_machine.specs.Writes.{AreStagedBlocks, IsBlockInRoom, AreInRoom}
 use Rattle.zs_core.proofs.Applying.{all_for}
 use Rattle.zs_core.proofs.HeadPut.{none_for}
 

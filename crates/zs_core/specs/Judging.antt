@@ -5,10 +5,11 @@ use Rattle.zs_ledger.specs.declared.entry.Entry.{Entry}
 use Rattle.zs_scan.specs.View.{ScanView}
 use Rattle.zs_scan.specs.Steps.{IsVerdict, Judged, still_flying}
 use Rattle.zs_script.specs.declared.reply.Reply.TheVariants as reply
-use Rattle.zs_core.specs.declared.event.Step.TheVariants as step
+use Rattle.zs_machine.specs.declared.event.Step.TheVariants as step
 use Rattle.zs_core.specs.declared.pool.Verdicts.{Verdicts}
-use Rattle.zs_core.specs.Steps.{VerdictStep}
-use Rattle.zs_core.specs.View.{PoolView, AddsEvent}
+use Rattle.zs_machine.specs.Steps.{VerdictStep}
+use Rattle.zs_core.specs.View.{PoolView}
+use Rattle.zs_machine.specs.History.{AddsEvent}
 
 -- the entries that were made, if a batch was judged
 abbrev pub entries_in : Option (List Entry) → List Entry

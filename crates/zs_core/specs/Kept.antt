@@ -14,14 +14,14 @@ use Rattle.zs_script.specs.declared.refusal.Refusal.TheVariants.{NoSpace}
 use Rattle.zs_txg.specs.Txg.{staged_for, Slot, staged_at}
 use Rattle.zs_txg.specs.declared.staged.Staging.{Staging}
 use Rattle.zs_scan.specs.Covered.{IsScanOf}
-use Rattle.zs_core.specs.declared.event.Stage.{Stage}
-use Rattle.zs_core.specs.declared.event.Stage.TheVariants.{Writing}
+use Rattle.zs_machine.specs.declared.event.Stage.{Stage}
+use Rattle.zs_machine.specs.declared.event.Stage.TheVariants.{Writing}
 use Rattle.zs_core.specs.declared.parts.Head.{Head}
 use Rattle.zs_core.specs.declared.parts.Closed.{Closed}
 use Rattle.zs_core.specs.declared.present.Present.TheInside.{Inside}
-use Rattle.zs_core.specs.Machine.{dataset_named}
-use Rattle.zs_core.specs.Shapes.{IsShape, IsLeast, data_start}
-use Rattle.zs_core.specs.Steps.{AreChanges, all_replaced}
+use Rattle.zs_machine.specs.Machine.{dataset_named}
+use Rattle.zs_machine.specs.Shapes.{IsShape, IsLeast, data_start}
+use Rattle.zs_machine.specs.Steps.{AreChanges, all_replaced}
 use Rattle.zs_core.specs.Placed.{room_of, AreFormed, AreStaged, AreBothPlaced}
 use Rattle.zs_core.specs.View.{CoreView, graph_of, next_id_of, txg_of, closed_of, pointers_in, scan_of}
 

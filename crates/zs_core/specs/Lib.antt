@@ -1,16 +1,6 @@
-pub mod Machine
-pub mod Born
-pub mod Flight
-pub mod Finishing
-pub mod Writes
-pub mod Replies
 pub mod Status
-pub mod Steps
-pub mod Told
-pub mod Commands
 pub mod Placed
 pub mod Freeing
-pub mod History
 pub mod View
 pub mod Kept
 pub mod Line
@@ -19,5 +9,6 @@ pub mod Safe
 pub mod Judging
 pub mod Ending
 pub mod Reading
-pub mod Shapes
 pub mod Synced
+pub mod FlightTold
+pub mod Calls

@@ -10,9 +10,9 @@ use Rattle.zs_script.specs.declared.reply.Reply.{Reply}
 use Rattle.zs_script.specs.declared.reply.Reply.TheVariants as reply
 use Rattle.zs_script.specs.declared.reply.WalkEnd.{WalkEnd}
 use Rattle.zs_script.specs.declared.reply.WalkEnd.TheVariants as ends
-use Rattle.zs_core.specs.Steps.{LineStep}
-use Rattle.zs_core.specs.Flight.{in_flight}
-use Rattle.zs_core.specs.Told.{TellsSteps, LeavesNone, line_steps}
+use Rattle.zs_machine.specs.Steps.{LineStep}
+use Rattle.zs_machine.specs.Flight.{in_flight}
+use Rattle.zs_machine.specs.Told.{TellsSteps, LeavesNone, line_steps}
 use Rattle.zs_core.specs.View.{CoreView, PoolView}
 
 -- why a walk that was to make n turns made just this many: as many were made; the next one is refused as full; or none is

@@ -16,7 +16,7 @@ use Rattle.zs_ids.specs.GraphValid.{Room, Overlap, record_sizes, origin}
 use Rattle.zs_txg.specs.declared.staged.Staging.{Staging}
 use Rattle.zs_txg.specs.Txg.{Slot, staged_at, put_staged, IsInSlotOrder}
 use Rattle.zs_objset.specs.Staged.{level_of}
-use Rattle.zs_core.specs.Steps.{staged_once}
+use Rattle.zs_machine.specs.Steps.{staged_once}
 
 -- a head that stands on the origin
 abbrev pub head_of : DsId → Name → List (Key × Bp) → Dataset

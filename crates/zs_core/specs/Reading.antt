@@ -9,9 +9,9 @@ use Rattle.zs_script.specs.declared.refusal.Refusal.TheVariants.{ReadLost}
 use Rattle.zs_script.specs.declared.reply.Reply.{Reply}
 use Rattle.zs_script.specs.declared.reply.Reply.TheVariants as reply
 use Rattle.zs_sum.specs.Sum.{sha256}
-use Rattle.zs_core.specs.declared.event.ReadPlan.{ReadPlan}
-use Rattle.zs_core.specs.declared.parts.OpenRead.{OpenRead}
-use Rattle.zs_core.specs.declared.event.ReadPlan.TheVariants as plan
+use Rattle.zs_machine.specs.declared.event.ReadPlan.{ReadPlan}
+use Rattle.zs_machine.specs.declared.event.OpenRead.{OpenRead}
+use Rattle.zs_machine.specs.declared.event.ReadPlan.TheVariants as plan
 use Rattle.zs_core.specs.declared.read.Begun.{Begun}
 use Rattle.zs_core.specs.declared.read.Begun.TheVariants as begun
 

@@ -8,10 +8,10 @@ use Rattle.zs_script.specs.declared.command.Command.{Command}
 use Rattle.zs_script.specs.declared.command.Command.TheVariants as command
 use Rattle.zs_script.specs.declared.reply.Reply.{Reply}
 use Rattle.zs_script.specs.declared.reply.Reply.TheVariants as reply
-use Rattle.zs_core.specs.Machine.{dataset_named, record_sectors}
-use Rattle.zs_core.specs.Replies.{make_refusal, write_refusal}
+use Rattle.zs_machine.specs.Machine.{dataset_named, record_sectors}
+use Rattle.zs_machine.specs.Replies.{make_refusal, write_refusal}
 use Rattle.zs_core.specs.Kept.{IsFullExactly, born_by, sectors_to_stage}
-use Rattle.zs_core.specs.Shapes.{IsShape, IsLeast, data_start, room_in}
+use Rattle.zs_machine.specs.Shapes.{IsShape, IsLeast, data_start, room_in}
 use Rattle.zs_core.specs.View.{CoreView, scan_of}
 
 -- the pool has the devices and mirrors of its shape, and what was handed out of its space, which ends where its least device does

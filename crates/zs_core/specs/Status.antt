@@ -27,23 +27,8 @@ use Rattle.zs_script.specs.declared.reply.TodoEntry.{TodoEntry}
 use Rattle.zs_script.specs.declared.reply.Walking.{Walking}
 use Rattle.zs_script.specs.declared.reply.WalkPlace.{WalkPlace}
 use Rattle.zs_script.specs.declared.reply.WalkPlace.TheVariants as places
-use Rattle.zs_core.specs.Machine.{PoolState, ScanState}
-
--- a count as a reply tells it: it stands still at its type's end
-abbrev pub counted : ℕ → ℕ
-counted n = min n 4294967295
-
--- the word for a scan's kind
-abbrev pub kind_word : Kind → ScanKind
-kind_word kinds.Resilver = scan_kinds.Resilver
-kind_word _ = scan_kinds.Scrub
-
--- the word for how a scan stands, where there was one
-abbrev pub state_word : Status → Bool → Option StateWord
-state_word statuses.Never paused = None
-state_word statuses.Scanning paused = Some (if paused then words.Paused else words.Scanning)
-state_word statuses.Finished paused = Some words.Finished
-state_word statuses.Canceled paused = Some words.Canceled
+use Rattle.zs_machine.specs.Machine.{PoolState}
+use Rattle.zs_machine.specs.Status.{counted, kind_word, state_word}
 
 -- the name of a dataset; the origin has none
 abbrev pub name_in : Option Dataset → DsName
@@ -86,19 +71,3 @@ status_reply s v =
     if s.suspended
     then reply.Refused Suspended
     else reply.Status s.open_txg.txg (status_with s.graph v (state_word v.run.status v.run.paused))
-
--- what is told of a scan agrees with what the machine has of it
-abbrev pub TellsScan : ScanState → Option StateWord → Option ScanStatus → Type 0
-TellsScan scan None told = told ≡ None
-TellsScan scan (Some word) None = ⊥
-TellsScan scan (Some word) (Some told) =
-    (told.kind ≡ kind_word scan.scope.kind)
-    × (told.state ≡ word)
-    × (told.checked ≡ counted (length scan.checked))
-    × (told.errors ≡ counted (length (filter has_error scan.checked)))
-
--- the reply to a `status`: the open transaction group, and how the scan stands, as far as the machine has it
-abbrev pub TellsStatus : PoolState → Reply → Type 0
-TellsStatus s (reply.Refused Suspended) = s.suspended ≡ true
-TellsStatus s (reply.Status txg scan) = (s.suspended ≡ false) × (txg ≡ s.open_txg.txg) × TellsScan s.scan (state_word s.scan.status s.scan.paused) scan
-TellsStatus s _ = ⊥

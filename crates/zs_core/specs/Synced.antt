@@ -5,9 +5,10 @@ use Rattle.zs_ids.specs.declared.block.Item.{Item}
 use Rattle.zs_ids.specs.declared.key.Key.{Key}
 use Rattle.zs_scan.specs.Walks.{item_of}
 use Rattle.zs_script.specs.declared.reply.Reply.TheVariants as reply
-use Rattle.zs_core.specs.declared.event.Step.TheVariants as step
-use Rattle.zs_core.specs.Steps.{DataStep}
-use Rattle.zs_core.specs.View.{PoolView, AddsEvent}
+use Rattle.zs_machine.specs.declared.event.Step.TheVariants as step
+use Rattle.zs_machine.specs.Steps.{DataStep}
+use Rattle.zs_core.specs.View.{PoolView}
+use Rattle.zs_machine.specs.History.{AddsEvent}
 use Rattle.std.specs.Prelude.{◌≡◌, ◌⊎◌, ◌++◌, ◌∷◌, [], ℕ, true, List, map}
 use Rattle.zs_ids.specs.declared.block.Piece.{Piece}
 use Rattle.zs_ids.specs.Graph.{Graph, IsLive}

@@ -8,15 +8,15 @@ use Rattle.zs_txg.specs.Txg.{Open, entries_for}
 use Rattle.zs_objset.specs.declared.block.StagedBlock.{StagedBlock}
 use Rattle.zs_objset.specs.Staged.{AreBlocksOf}
 use Rattle.zs_core.specs.declared.parts.Head.{Head}
-use Rattle.zs_core.specs.declared.parts.OpenRead.{OpenRead}
+use Rattle.zs_machine.specs.declared.event.OpenRead.{OpenRead}
 use Rattle.zs_core.specs.declared.parts.Closed.{Closed}
-use Rattle.zs_core.specs.declared.shape.Shape.{Shape}
-use Rattle.zs_core.specs.declared.event.Event.{Event}
-use Rattle.zs_core.specs.declared.event.Step.{Step}
+use Rattle.zs_machine.specs.declared.shape.Shape.{Shape}
+use Rattle.zs_machine.specs.declared.event.Event.{Event}
+use Rattle.zs_machine.specs.declared.event.Step.{Step}
 use Rattle.zs_script.specs.declared.reply.Reply.{Reply}
 use Rattle.zs_scan.specs.View.{ScanView}
-use Rattle.zs_core.specs.Machine.{PoolState, Txg, Data, ScanState}
-use Rattle.zs_core.specs.Steps.{origin, no_name}
+use Rattle.zs_machine.specs.Machine.{PoolState, Txg, Data, ScanState}
+use Rattle.zs_machine.specs.Steps.{origin, no_name}
 
 -- the head as a dataset
 abbrev pub dataset_of : Head → Dataset
@@ -81,10 +81,6 @@ pub record PoolView : Type 0 where
 -- what tasks change, of a pool with this head and scan
 abbrev pub data_of : Option Head → ScanView → ℕ → Data
 data_of head scan saved = record { graph = graph_of head; next_id = next_id_of head; scan = scan_of scan saved }
-
--- one event was added to a history: a client's, with its step and its reply
-abbrev pub AddsEvent : ℕ → Step → Reply → List Event → List Event → Type 0
-AddsEvent by step reply old new = new ≡ old ++ record { by = by; step = step; reply = reply } ∷ []
 
 -- the course of a pool is as it was: its stage, whether it is suspended, and its open reads
 pub record KeepsCourse (old new : PoolState) : Type 0 where

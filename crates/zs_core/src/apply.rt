@@ -8,13 +8,12 @@ ghost use Rattle.zs_scan.specs.Walks.{item_of};
 ghost use Rattle.zs_ids.specs.declared.block.Piece.{Piece};
 ghost use Rattle.zs_scan.specs.Steps.{IsComplete};
 ghost use Rattle.zs_scan.specs.Kept.{IsOrderly};
-ghost use Rattle.zs_core.specs.Steps.{all_replaced, DataStep};
+ghost use Rattle.zs_machine.specs.Steps.{all_replaced, DataStep};
 ghost use Rattle.zs_core.specs.Kept.{IsPutIn};
 ghost use Rattle.zs_core.specs.Ending.{EndsWith};
 ghost use Rattle.zs_core.specs.Synced.{AreGone, IsSynced, AreItemsOf};
 ghost use Rattle.zs_core.specs.Freeing.{FreesAll, replaced_in};
 
-use crate::event::Stage;
 use crate::freeing::free_replaced;
 use crate::heads::Heads;
 use crate::parts::Head;
@@ -23,6 +22,7 @@ use crate::tasks::run_tasks;
 use std::alloc::{AllocError, Global};
 use zs_flat::Flat;
 use zs_ids::{Blocks, Bp, Item, Key};
+use zs_machine::Stage;
 use zs_scan::{Scan, item_of};
 
 /// Puts entries over those of a map, one after another.

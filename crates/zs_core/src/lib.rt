@@ -24,22 +24,18 @@
 #![tactic(auto)]
 
 mod apply;
-pub mod event;
 mod freeing;
 mod heads;
-pub mod parts;
+mod parts;
 pub mod pool;
 mod present;
 mod read;
 mod scanning;
-pub mod shape;
 mod staging;
 mod status;
 mod tasks;
 #[cfg(test)]
 mod tests;
 
-pub use event::{CommitFault, Event, ReadPlan, Stage, Step};
-pub use parts::OpenRead;
 pub use pool::{Pool, PoolFault, Verdicts};
-pub use shape::{Shape, data_start};
+pub use zs_machine::{CommitFault, Event, OpenRead, ReadPlan, Shape, Stage, Step, data_start};

@@ -8,13 +8,13 @@ ghost use Rattle.zs_scan.specs.View.{pieces_in};
 ghost use Rattle.zs_scan.specs.Steps.{Taken, IsComplete, blank_scan};
 ghost use Rattle.zs_scan.specs.Walks.{Walked, IsFull};
 ghost use Rattle.zs_walk.specs.Left.{turns_left};
-ghost use Rattle.zs_core.specs.Machine.{is_running, is_at_work};
+ghost use Rattle.zs_machine.specs.Machine.{is_running, is_at_work};
 ghost use Rattle.zs_core.specs.Line.{IsLineReply};
 ghost use Rattle.zs_core.specs.Status.{status_reply};
-ghost use Rattle.zs_core.specs.Steps.{committed_reply, CommandStep, DataStep, ReadBeginStep, ReadEndStep, VerdictStep, blank_state, begun_sync, halted};
-ghost use Rattle.zs_core.specs.Replies.{read_refusal};
-ghost use Rattle.zs_core.specs.Flight.{FlyAsTold};
-ghost use Rattle.zs_core.specs.Writes.{AreStagedBlocks, AreInRoom};
+ghost use Rattle.zs_machine.specs.Steps.{committed_reply, CommandStep, DataStep, ReadBeginStep, ReadEndStep, VerdictStep, blank_state, begun_sync, halted};
+ghost use Rattle.zs_machine.specs.Replies.{read_refusal};
+ghost use Rattle.zs_core.specs.FlightTold.{FlyAsTold};
+ghost use Rattle.zs_machine.specs.Writes.{AreStagedBlocks, AreInRoom};
 ghost use Rattle.zs_ledger.specs.Entry.{HaveCopies};
 ghost use Rattle.zs_ids.specs.declared.block.Item.{Item};
 ghost use Rattle.zs_core.specs.Judging.{HasVerdict};
@@ -22,21 +22,22 @@ ghost use Rattle.zs_core.specs.Synced.{AreGone, IsSynced, AppliesGroup};
 ghost use Rattle.zs_objset.specs.Staged.{pointers_of};
 ghost use Rattle.zs_core.specs.Safe.{IsSafe, IsFullFor, next_after};
 ghost use Rattle.zs_core.specs.Reading.{IsGotFor, IsReadReply, EndsIfRead, IsPlanInRoom};
-ghost use Rattle.zs_core.specs.View.{AddsEvent, KeepsCourse, KeepsReads, with_read};
+ghost use Rattle.zs_machine.specs.History.{AddsEvent};
+ghost use Rattle.zs_core.specs.View.{KeepsCourse, KeepsReads, with_read};
 ghost use Rattle.std.specs.Prelude.{ℕ, List, Option};
 ghost use Rattle.zs_ids.specs.declared.block.Piece.{Piece};
-ghost use Rattle.zs_core.specs.History.{IsHistory};
-ghost use Rattle.zs_core.specs.Shapes.{IsShape, IsLeast, data_start, room_in, IsPoolCommand, IsPlain};
+ghost use Rattle.zs_machine.specs.History.{IsHistory};
+ghost use Rattle.zs_machine.specs.Shapes.{IsShape, IsLeast, data_start, room_in};
+ghost use Rattle.zs_core.specs.Calls.{IsPoolCommand, IsPlain};
 
-use crate::event::{CommitFault, Event, ReadPlan, Stage, Step};
 use crate::present::Present;
 use crate::read::Begun;
-use crate::shape::Shape;
 use std::alloc::{AllocError, Global};
 use std::marker::Model;
 use zs_ids::limits::TXG_END;
 use zs_ids::{DsName, Item, Piece, Seq};
 use zs_ledger::Entry;
+use zs_machine::{CommitFault, Event, ReadPlan, Shape, Stage, Step};
 use zs_objset::Staged;
 use zs_scan::{Batch, Scan, ScanFault, Turn};
 use zs_script::{Command, Refusal, Reply};
@@ -84,9 +85,9 @@ impl Model for Pool {
     ghost Value = { PoolView };
 
     ghost use Rattle.std.specs.Prelude.{◌≤◌, ◌+◌, vec_len, vec_capacity};
-    ghost use Rattle.zs_core.specs.History.{IsHistory};
-    ghost use Rattle.zs_core.specs.Flight.{FlyAsTold};
-    ghost use Rattle.zs_core.specs.Shapes.{events_due};
+    ghost use Rattle.zs_machine.specs.History.{IsHistory};
+    ghost use Rattle.zs_core.specs.FlightTold.{FlyAsTold};
+    ghost use Rattle.zs_core.specs.Calls.{events_due};
 
     ghost view = { λ p. record { core = p.present; history = p.history.items } };
 
@@ -223,7 +224,7 @@ fn read_copied(reply: &Reply) -> Reply
     }
 }
 
-#[tactic(auto, using(crate::proofs::Histories::history_on, crate::proofs::Flying::fly_still))]
+#[tactic(auto, using(zs_machine::proofs::Histories::history_on, crate::proofs::Flying::fly_still))]
 impl Pool {
     /// Makes a pool: a sync of transaction group 1, in which nothing is staged, is in progress.
     pub fn blank(alloc: Global, shape: Shape) -> Result<Pool, AllocError>

@@ -6,21 +6,21 @@ ghost use Rattle.std.specs.Int.{from_be_bytes, w64};
 ghost use Rattle.zs_ids.specs.Key.{record_key};
 ghost use Rattle.zs_ids.specs.Blocks.{bp_at};
 ghost use Rattle.zs_sum.specs.Sum.{sha256};
-ghost use Rattle.zs_core.specs.Machine.{staged_record};
-ghost use Rattle.zs_core.specs.Replies.{read_refusal};
-ghost use Rattle.zs_core.specs.Steps.{ReadBeginStep, ReadEndStep, IsReadAnswer, plan_from};
+ghost use Rattle.zs_machine.specs.Machine.{staged_record};
+ghost use Rattle.zs_machine.specs.Replies.{read_refusal};
+ghost use Rattle.zs_machine.specs.Steps.{ReadBeginStep, ReadEndStep, IsReadAnswer, plan_from};
 ghost use Rattle.std.specs.Prelude.{Ok};
 ghost use Rattle.zs_core.specs.View.{dataset_of};
-ghost use Rattle.zs_core.specs.Shapes.{room_in};
+ghost use Rattle.zs_machine.specs.Shapes.{room_in};
 ghost use Rattle.zs_script.specs.declared.refusal.Refusal.{Refusal};
 ghost use Rattle.zs_core.specs.Reading.{planned_of, begun_reply, IsGotFor, IsReadReply, HasNoRead, IsFirstRead, EndsRead, IsBegunInRoom, IsPlacedAt, got_reply, read_reply};
 
-use crate::event::ReadPlan;
-use crate::parts::{Head, OpenRead};
+use crate::parts::Head;
 use crate::present::Present;
 use crate::staging::is_head_named;
 use std::alloc::AllocError;
 use zs_ids::{Blocks, DsId, DsName, Item, Key};
+use zs_machine::{OpenRead, ReadPlan};
 use zs_scan::item_of;
 use zs_script::{Refusal, Reply};
 

@@ -7,7 +7,7 @@ ghost use Rattle.zs_scan.specs.Steps.{Taken};
 ghost use Rattle.zs_core.specs.Judging.{entries_in, IsJudged};
 ghost use Rattle.zs_scan.specs.Walks.{Walked, IsFull};
 ghost use Rattle.zs_walk.specs.Left.{turns_left};
-ghost use Rattle.zs_core.specs.Steps.{VerdictStep};
+ghost use Rattle.zs_machine.specs.Steps.{VerdictStep};
 ghost use Rattle.zs_ledger.specs.Entry.{HaveCopies};
 ghost use Rattle.zs_scan.specs.Steps.{IsVerdict, Judged, still_flying};
 

@@ -3,13 +3,13 @@
 ghost use Rattle.std.specs.Prelude.{nat_le, ◌≡◌, ◌<◌, ◌≤◌, ◌+◌, ◌/◌, ◌-◌, ◌%◌, ◌^◌, None, Some, true, false, IfOk, OnOk, OnErr, IsErrOf, ◌↔◌, is_some, if◌then◌else◌, option_map};
 ghost use Rattle.zs_ids.specs.Key.{root_key, dnode_key, record_key};
 ghost use Rattle.zs_txg.specs.Txg.{staged_at, put_staged};
-ghost use Rattle.zs_core.specs.Machine.{is_named, has_object, staged_record, record_sectors};
-ghost use Rattle.zs_core.specs.Replies.{make_refusal, write_refusal};
+ghost use Rattle.zs_machine.specs.Machine.{is_named, has_object, staged_record, record_sectors};
+ghost use Rattle.zs_machine.specs.Replies.{make_refusal, write_refusal};
 ghost use Rattle.zs_script.specs.declared.command.Command.TheVariants.{Make, Write};
 ghost use Rattle.zs_script.specs.Lines.{IsMake};
-ghost use Rattle.zs_core.specs.Steps.{MakeStep, WriteStep, staged_once};
+ghost use Rattle.zs_machine.specs.Steps.{MakeStep, WriteStep, staged_once};
 ghost use Rattle.zs_core.specs.Placed.{staged_again};
-ghost use Rattle.zs_core.specs.Shapes.{IsPlain};
+ghost use Rattle.zs_core.specs.Calls.{IsPlain};
 ghost use Rattle.zs_core.specs.View.{dataset_of, KeepsCourse};
 ghost use Rattle.zs_core.specs.Safe.{IsFullFor, next_after};
 ghost use Rattle.zs_core.specs.Kept.{sectors_to_stage};

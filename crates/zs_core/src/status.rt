@@ -2,7 +2,8 @@
 
 ghost use Rattle.std.specs.Prelude.{◌≡◌, IfOk, map};
 ghost use Rattle.zs_ids.specs.GraphTree.{dataset_at};
-ghost use Rattle.zs_core.specs.Status.{counted, kind_word, state_word, name_in, place_of, todo_of, walking_of, status_with, status_reply, TellsStatus};
+ghost use Rattle.zs_machine.specs.Status.{counted, kind_word, state_word, TellsStatus};
+ghost use Rattle.zs_core.specs.Status.{name_in, place_of, todo_of, walking_of, status_with, status_reply};
 ghost use Rattle.zs_core.specs.View.{graph_of};
 
 use crate::heads::Heads;

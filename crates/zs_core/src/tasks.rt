@@ -1,7 +1,7 @@
 //! Running the tasks of a transaction group.
 
 ghost use Rattle.std.specs.Prelude.{◌≡◌, ◌≤◌, ◌+◌, [], length, vec_len, vec_capacity};
-ghost use Rattle.zs_core.specs.Replies.{task_refusal, after_run, task_answers, after_tasks};
+ghost use Rattle.zs_machine.specs.Replies.{task_refusal, after_run, task_answers, after_tasks};
 ghost use Rattle.zs_core.specs.View.{data_of};
 ghost use Rattle.zs_core.specs.Running.{RunsOn};
 

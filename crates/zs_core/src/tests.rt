@@ -2,8 +2,9 @@
 
 ghost use Rattle.std.specs.Prelude.{◌≡◌, ◌∷◌, [], IfOk, OnOk, false};
 ghost use Rattle.zs_ledger.specs.declared.entry.CopyResult.TheVariants.{Good, Missing};
-ghost use Rattle.zs_core.specs.Shapes.{IsShape, IsPoolCommand};
-ghost use Rattle.zs_core.specs.Told.{line_steps};
+ghost use Rattle.zs_machine.specs.Shapes.{IsShape};
+ghost use Rattle.zs_core.specs.Calls.{IsPoolCommand};
+ghost use Rattle.zs_machine.specs.Told.{line_steps};
 ghost use Rattle.zs_core.specs.View.{KeepsCourse};
 
 use crate::{Event, Pool, PoolFault, ReadPlan, Shape, Stage, Step, Verdicts};

@@ -1,35 +1,23 @@
 //! The program `zscan`: a pool of mirrored devices in image files, and scrubs of what it holds.
 //!
-//! Layer: the top; it stands on all others.
-//! Model: a run of the program is a history of events, which is a run of the abstract machine of `zs_core`. What was
-//! put into the sink is the text of that history.
-//! Promise: the clauses of `step::run_step`, each a record of `specs/Runs`. `main` gives it the real outside: standard
-//! input and output, and image files, which tell nothing of what they hold (`files`).
+//! Layer: the top; it stands on all others. What it does with a script is `zs_session`.
+//! Promise: `main` gives `run_step` the real outside, standard input and output and image files, which tell nothing of what
+//! they hold (`files`), and ends with its status. Every clause of `run_step` that speaks of statuses, counts and the
+//! history holds of them.
 //!
-//! Where to change what: a new form of the command line in `step`; what a line does in `lines`, and of those of a scan in
-//! `turns`, `batches`, `landing` and `finishing`; how the images of a pool are tested in `images`; what is read, checked and
-//! written on the devices in `mirror`.
+//! The tests run whole scripts over devices in memory. To change how files and streams are opened and read see `files`.
 #![tactic(auto)]
 
-mod batches;
 mod files;
-mod finishing;
-mod images;
-mod landing;
-mod lines;
-mod mirror;
-mod session;
-mod step;
-mod stop;
 #[cfg(test)]
 mod tests;
-mod turns;
 
 use files::{ImageFiles, Input, Output, StandIns};
 use std::alloc::AllocError;
 use std::env;
 use std::io::ErrorKind;
 use std::process::ExitCode;
+use zs_session::run_step;
 
 fn main(rt: HostRuntime) -> ExitCode {
     let Ok(_stand_ins) = StandIns::take_closed(&rt) else {
@@ -41,7 +29,7 @@ fn main(rt: HostRuntime) -> ExitCode {
     let mut src = Input::new(rt.stdin());
     let mut out = Output::new(rt.stdout());
     let mut bay = ImageFiles::new(rt);
-    let ended = step::run_step(rt.alloc(), words.as_slice(), &mut bay, &mut src, &mut out);
+    let ended = run_step(rt.alloc(), words.as_slice(), &mut bay, &mut src, &mut out);
     ExitCode::from(ended.status)
 }
 

@@ -1,10 +1,10 @@
 //! Runs in which a part of the outside fails.
 
-use crate::step::run_step;
 use crate::tests::world::{BASE, BASE_REPLIES, failing, outcome_of, run_over, source, words};
 use std::alloc::{AllocError, Global};
 use std::test::Fail;
 use zs_io::{MemBay, MemSink, MemSource};
+use zs_session::run_step;
 
 #[test]
 fn a_missing_image_ends_the_run_without_a_word(rt: HostRuntime) -> Result<(), Fail> {

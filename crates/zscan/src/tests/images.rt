@@ -1,11 +1,11 @@
 //! Images of which no pool can be made.
 
-use crate::step::run_step;
 use crate::tests::devices::HollowBay;
 use crate::tests::world::{blank, image, run_over, source, words};
 use std::alloc::{AllocError, Global};
 use std::test::Fail;
 use zs_io::{MemBay, MemSink};
+use zs_session::run_step;
 
 /// How a script with this line ends, and what it puts, over one blank image of 512 sectors, and one of that many sectors
 /// in which the byte of this number is not zero.

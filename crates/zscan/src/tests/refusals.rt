@@ -1,10 +1,10 @@
 //! Every refusal of a command, once, with its text.
 
-use crate::step::run_step;
 use crate::tests::devices::{Hollow, HollowBay};
 use crate::tests::world::{BASE, BASE_REPLIES, run_behind, source, words};
 use std::test::Fail;
 use zs_io::MemSink;
+use zs_session::run_step;
 
 #[test]
 fn refused_commands_tell_why_and_the_run_goes_on(rt: HostRuntime) -> Result<(), Fail> {

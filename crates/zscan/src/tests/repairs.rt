@@ -1,11 +1,10 @@
 //! Copies that are bad, and what a scrub does with them.
 
-use crate::session::Session;
-use crate::step::run_step;
 use crate::tests::devices::{Shaky, ShakyBay};
 use crate::tests::world::{BASE, BASE_REPLIES, source, words};
 use std::test::Fail;
 use zs_io::MemSink;
+use zs_session::{Session, run_step};
 
 /// Whether both images hold the same bytes, the first after four writes, and the second after three.
 fn are_repaired(session: Option<Session<Shaky>>) -> bool {

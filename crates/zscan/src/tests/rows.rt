@@ -1,12 +1,12 @@
 //! Whole scripts with their replies.
 
-use crate::step::run_step;
 use crate::tests::world::{
     BASE, BASE_REPLIES, failing, outcome_of, run, run_behind, source, words,
 };
 use std::alloc::{AllocError, Global};
 use std::test::Fail;
 use zs_io::{Bay, Device, MemBay, MemSink};
+use zs_session::run_step;
 
 /// Runs a script that has a fault over two images of which the first call fails, and says with which status it ended, what
 /// it put, and whether both images still stand in the bay, blank, with no call made.

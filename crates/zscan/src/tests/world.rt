@@ -2,10 +2,9 @@
 
 ghost use Rattle.std.specs.Prelude.{◌≡◌, ◌≤◌, IfOk};
 
-use crate::session::{Ended, Session};
-use crate::step::run_step;
 use std::alloc::{AllocError, Global};
 use zs_io::{Device, MemBay, MemDevice, MemSink, MemSource};
+use zs_session::{Ended, Session, run_step};
 
 /// A pool with one record in its one head.
 pub const BASE: &str = "pool 7 2 8 4 64\nfs a\nsync\nmake a 1 1 512 5\nsync\n";

@@ -1,5 +1,5 @@
 use Rattle.std.proofs.Common.{◌≡◌, drop}
-use Rattle.zs_core.specs.Steps.{all_replaced}
+use Rattle.zs_machine.specs.Steps.{all_replaced}
 use Rattle.zs_core.proofs.apply.put_changes.Given as goal
 
 abbrev pub invariant-loop-change : goal.invariant-loop-change

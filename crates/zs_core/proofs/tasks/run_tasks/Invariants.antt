@@ -1,6 +1,6 @@
 -- What the tasks so far answered and did is the beginning of what all answer and do, and all stays kept.
 use Rattle.std.proofs.Common.{◌≡◌, ◌++◌, ◌+◌, ◌≤◌, drop, length, vec_len, vec_capacity}
-use Rattle.zs_core.specs.Replies.{task_answers, after_tasks}
+use Rattle.zs_machine.specs.Replies.{task_answers, after_tasks}
 use Rattle.zs_core.specs.View.{data_of}
 use Rattle.zs_core.specs.Running.{RunsOn}
 use Rattle.zs_core.proofs.tasks.run_tasks.Given as goal

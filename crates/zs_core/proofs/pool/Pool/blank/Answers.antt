@@ -1,14 +1,16 @@
 -- The history begins with the pool's making.
 use Rattle.std.proofs.Common.{sym, map}
 use Rattle.zs_scan.specs.View.{ScanView}
-use Rattle.zs_core.specs.Flight.{flying_of, in_flight}
-use Rattle.zs_core.specs.Shapes.{events_due}
+use Rattle.zs_core.specs.FlightTold.{flying_of}
+use Rattle.zs_machine.specs.Flight.{in_flight}
+use Rattle.zs_core.specs.Calls.{events_due}
 use Rattle.std.proofs.Common.{◌+◌, ◌≤◌, vec_len, vec_capacity, ◌≡◌, ◌∙◌, ap, refl, [], ◌*◌, arith}
 use Rattle.zs_script.specs.declared.command.Command.TheVariants.{Pool}
 use Rattle.zs_script.specs.declared.reply.Reply.TheVariants as reply
-use Rattle.zs_core.specs.declared.event.Step.TheVariants as step
-use Rattle.zs_core.specs.Steps.{blank_state}
-use Rattle.zs_core.proofs.Histories.{event_added, due_few}
+use Rattle.zs_machine.specs.declared.event.Step.TheVariants as step
+use Rattle.zs_machine.specs.Steps.{blank_state}
+use Rattle.zs_machine.proofs.Histories.{event_added}
+use Rattle.zs_core.proofs.Due.{due_few}
 use Rattle.zs_core.proofs.pool.Pool.blank.Goals as goal
 
 room : (c : goal.After-note) → vec_len c.note.new.history + events_due c.in_ok-present.present.state.stage ≤ vec_capacity c.note.new.history

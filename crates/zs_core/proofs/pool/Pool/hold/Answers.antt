@@ -4,9 +4,11 @@ use Rattle.std.specs.Prelude.{List, map, false}
 use Rattle.zs_ids.specs.declared.block.Piece.{Piece}
 use Rattle.zs_scan.specs.declared.batch.Batch.{Batch}
 use Rattle.zs_scan.specs.View.{pieces_in}
-use Rattle.zs_core.specs.Flight.{flying_of, with_batch}
-use Rattle.zs_core.specs.Shapes.{events_due}
-use Rattle.zs_core.proofs.Histories.{history_on, event_added, due_few}
+use Rattle.zs_core.specs.FlightTold.{flying_of}
+use Rattle.zs_machine.specs.Flight.{with_batch}
+use Rattle.zs_core.specs.Calls.{events_due}
+use Rattle.zs_machine.proofs.Histories.{history_on, event_added}
+use Rattle.zs_core.proofs.Due.{due_few}
 use Rattle.zs_core.proofs.Flying.{fly_on, held_after}
 use Rattle.zs_core.proofs.pool.Pool.hold.Goals as goal
 

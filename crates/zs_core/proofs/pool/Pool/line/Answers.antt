@@ -1,7 +1,8 @@
 -- A line goes on with the history: its reply is one that the machine allows, and tells of the events before it.
-use Rattle.zs_core.specs.Shapes.{events_due}
+use Rattle.zs_core.specs.Calls.{events_due}
 use Rattle.std.proofs.Common.{◌+◌, ◌≤◌, vec_len, vec_capacity, arith, refl}
-use Rattle.zs_core.proofs.Histories.{history_on, event_added, due_few}
+use Rattle.zs_machine.proofs.Histories.{history_on, event_added}
+use Rattle.zs_core.proofs.Due.{due_few}
 use Rattle.zs_core.proofs.Flying.{fly_still}
 use Rattle.zs_core.proofs.pool.Pool.line.Goals as goal
 

@@ -1,5 +1,5 @@
 -- What was planned lies in the pool's space, and a refusal is the machine's.
-use Rattle.zs_core.proofs.Histories.{event_added}
+use Rattle.zs_machine.proofs.Histories.{event_added}
 use Rattle.zs_core.proofs.Planned.{why_refused}
 use Rattle.zs_core.proofs.pool.Pool.read_begin.Goals as goal
 

@@ -4,11 +4,13 @@ use Rattle.std.specs.Prelude.{List, map, Some}
 use Rattle.zs_ids.specs.declared.block.Piece.{Piece}
 use Rattle.zs_ledger.specs.declared.entry.Entry.{Entry}
 use Rattle.zs_scan.specs.declared.batch.Batch.{Batch}
-use Rattle.zs_core.specs.Flight.{flying_of, landed, in_flight, IsOfFlight}
-use Rattle.zs_core.specs.Steps.{VerdictStep}
+use Rattle.zs_core.specs.FlightTold.{flying_of}
+use Rattle.zs_machine.specs.Flight.{landed, in_flight, IsOfFlight}
+use Rattle.zs_machine.specs.Steps.{VerdictStep}
 use Rattle.zs_core.specs.Judging.{IsJudged}
-use Rattle.zs_core.specs.Shapes.{events_due}
-use Rattle.zs_core.proofs.Histories.{history_on, event_added, due_few}
+use Rattle.zs_core.specs.Calls.{events_due}
+use Rattle.zs_machine.proofs.Histories.{history_on, event_added}
+use Rattle.zs_core.proofs.Due.{due_few}
 use Rattle.zs_core.proofs.Flying.{fly_on, is_of_flight, judged_after}
 use Rattle.zs_core.proofs.pool.Pool.verdict.Goals as goal
 

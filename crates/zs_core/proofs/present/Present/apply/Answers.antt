@@ -7,7 +7,7 @@ use Rattle.zs_core.specs.declared.parts.Closed.{Closed}
 use Rattle.zs_core.specs.Freeing.{FreesAll, replaced_in}
 use Rattle.zs_core.specs.Placed.{room_of}
 use Rattle.zs_core.specs.Synced.{AreGone, IsSynced, AreItemsOf}
-use Rattle.zs_core.specs.Replies.{after_tasks, task_answers}
+use Rattle.zs_machine.specs.Replies.{after_tasks, task_answers}
 use Rattle.zs_core.specs.Kept.{view_of, Facts, IsClosedOver, IsHeadKept, IsPutIn, staged_in, born_by}
 use Rattle.zs_core.specs.View.{txg_of, closed_of, graph_of, pointers_in, data_of, scan_of, next_id_of}
 use Rattle.zs_core.proofs.HeadPut.{put_kept, head_written}
@@ -15,8 +15,8 @@ use Rattle.zs_core.proofs.ScanPut.{blocks_now, put_scanned}
 use Rattle.zs_core.proofs.Ended.{freed_complete, ran_complete, ended_limit, ended_width, ended_if_complete, next_scanned, put_data, end_step}
 use Rattle.zs_core.proofs.Started.{started_limit, started_width}
 use Rattle.zs_core.proofs.Birth.{born_items}
-use Rattle.zs_core.specs.Born.{AreBornItems}
-use Rattle.zs_core.specs.Shapes.{data_start}
+use Rattle.zs_machine.specs.Born.{AreBornItems}
+use Rattle.zs_machine.specs.Shapes.{data_start}
 use Rattle.zs_core.proofs.Gone.{pieces_gone}
 use Rattle.zs_core.proofs.present.Present.apply.Goals as goal
 

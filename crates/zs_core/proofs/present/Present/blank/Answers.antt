@@ -3,9 +3,9 @@ use Rattle.std.proofs.Common.{◌≡◌, ◌∙◌, sym, ap, subst, arith, ◌�
 use Rattle.zs_scan.specs.View.{ScanView}
 use Rattle.zs_txg.specs.Txg.{Open}
 use Rattle.zs_core.specs.Placed.{room_of}
-use Rattle.zs_core.specs.Shapes.{data_start}
+use Rattle.zs_machine.specs.Shapes.{data_start}
 use Rattle.zs_core.proofs.Blank.{blank, blank_valid}
-use Rattle.zs_core.proofs.ShapeSizes.{start_below}
+use Rattle.zs_machine.proofs.ShapeSizes.{start_below}
 use Rattle.zs_core.proofs.present.Present.blank.Goals as goal
 
 pub invariant_of-result : goal.invariant_of-result

@@ -3,8 +3,8 @@ use Rattle.std.proofs.Common.{◌∙◌, ◌≤◌, ◌<◌, ◌+◌, ◌/◌, s
 use Rattle.zs_ids.specs.declared.limits.TheConstants.{TXG_END}
 use Rattle.zs_core.specs.Kept.{Facts, IsAtStage, view_of}
 use Rattle.zs_core.specs.View.{graph_of, dataset_of}
-use Rattle.zs_core.specs.Shapes.{data_start}
-use Rattle.zs_core.specs.Replies.{make_refusal}
+use Rattle.zs_machine.specs.Shapes.{data_start}
+use Rattle.zs_machine.specs.Replies.{make_refusal}
 use Rattle.zs_core.proofs.Sizes.{is_record_size}
 use Rattle.zs_core.proofs.Recorded.{some_fill, head_made}
 use Rattle.zs_core.proofs.Allowed.{makes, made_free, has_space, has_none, takes, not_refused}

@@ -1,7 +1,7 @@
 use Rattle.std.proofs.Common.{◌∙◌, sym, ap, refl}
 use Rattle.zs_core.specs.Kept.{view_of}
-use Rattle.zs_core.specs.Replies.{read_refusal}
-use Rattle.zs_core.specs.Steps.{plan_in}
+use Rattle.zs_machine.specs.Replies.{read_refusal}
+use Rattle.zs_machine.specs.Steps.{plan_in}
 use Rattle.zs_core.specs.View.{dataset_of}
 use Rattle.zs_ids.specs.Key.{record_key}
 use Rattle.zs_core.proofs.Opening.{read_opens}

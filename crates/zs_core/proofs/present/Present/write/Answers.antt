@@ -1,10 +1,10 @@
 -- A record is staged for the head; nothing else that is kept has changed.
 use Rattle.std.proofs.Common.{◌∙◌, ◌≤◌, ◌<◌, ◌+◌, sym, ap, subst, arith, ℕ}
 use Rattle.zs_ids.specs.declared.limits.TheConstants.{TXG_END}
-use Rattle.zs_core.specs.Shapes.{data_start}
+use Rattle.zs_machine.specs.Shapes.{data_start}
 use Rattle.zs_core.specs.Kept.{Facts, IsAtStage, view_of}
-use Rattle.zs_core.specs.Machine.{record_sectors}
-use Rattle.zs_core.specs.Replies.{write_refusal}
+use Rattle.zs_machine.specs.Machine.{record_sectors}
+use Rattle.zs_machine.specs.Replies.{write_refusal}
 use Rattle.zs_core.specs.View.{graph_of, txg_of, dataset_of}
 use Rattle.zs_core.proofs.Recorded.{some_fill, head_written}
 use Rattle.zs_core.proofs.Allowed.{writes, written_there, size_there, write_step, has_space, has_none, takes, not_refused}

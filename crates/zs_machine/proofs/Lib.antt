@@ -1,0 +1,3 @@
+pub mod Finished
+pub mod Histories
+pub mod ShapeSizes

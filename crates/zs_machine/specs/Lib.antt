@@ -1,0 +1,13 @@
+pub mod Machine
+pub mod Born
+pub mod Flight
+pub mod Finishing
+pub mod Writes
+pub mod Replies
+pub mod Status
+pub mod Steps
+pub mod Told
+pub mod Commands
+pub mod History
+pub mod Shapes
+pub mod Laws

@@ -1,0 +1,34 @@
+-- Why images are refused.
+use Rattle.std.proofs.Common.{◌≡◌, ℕ, List, length, Option, Err, refl, arith}
+use Rattle.std.specs.Prelude.{IsErrOf}
+use Rattle.zs_script.specs.declared.refusal.Refusal.{Refusal}
+use Rattle.zs_script.specs.declared.refusal.Refusal.TheVariants.{Shape, NotBlank}
+use Rattle.zs_script.specs.declared.reply.Reply.TheVariants.{Refused}
+use Rattle.zs_script.specs.Texts.{reply_text, reply_lines}
+use Rattle.zs_session.specs.Mirror.{SomeRose}
+use Rattle.zs_session.specs.Puts.{PutsRefusal, refused_line}
+use Rattle.zs_session.proofs.Texts.{part_none}
+use Rattle.zs_session.specs.Images.{AreBlank, IsSizeFault, IsImageFault, AreFresh, HasFailed}
+
+-- a fault of the sizes of as many blank images as there should be is one of theirs
+pub sized : (width blocks : ℕ) (sizes : List ℕ) (told : List (Option (List ℕ))) (fault : Refusal) → length sizes ≡ width → AreBlank sizes told → IsSizeFault blocks sizes fault → IsImageFault width blocks sizes told fault
+sized width blocks sizes told Shape count blank is = absurd is
+sized width blocks sizes told NotBlank count blank is = absurd is
+sized width blocks sizes told fault count blank is = (count, blank, is)
+
+-- an error stays one of a result of another type
+pub same_error : {A B E : Type 0} {x z : E} → IsErrOf {T = A} {E = E} (Err x) z → IsErrOf {T = B} {E = E} (Err x) z
+same_error h = cc
+
+-- a device whose count rose from none has failed
+pub has_failed : (before now : List ℕ) → AreFresh before → SomeRose before now → HasFailed now
+has_failed before now fresh rose = let none = fresh rose.0 in (rose.0, omega (arith, rose.1, none))
+
+-- the line that tells a refusal is the text of its reply
+pub refused_is : (refusal : Refusal) → reply_text 0 (Refused refusal) ≡ refused_line refusal
+unfolding reply_text reply_lines refused_line
+refused_is refusal = refl
+
+-- nothing was put, which is a beginning of any line
+pub refusal_none : (told : Option (List ℕ)) → PutsRefusal told told
+refusal_none told = record { fault = NotBlank; part = part_none told (refused_line NotBlank) }

@@ -1,0 +1,52 @@
+use Rattle.std.proofs.Common.{◌≡◌, ◌≤◌, ◌<◌, ◌∙◌, ap, subst, sym, length, map, refl, arith}
+use Rattle.std.proofs.lemmas.List.{length-map}
+use Rattle.zs_ids.specs.declared.block.Item.{Item}
+use Rattle.zs_scan.specs.declared.batch.Batch.{Batch}
+use Rattle.zs_scan.specs.View.{ScanView}
+use Rattle.zs_core.specs.View.{CoreView, PoolView}
+use Rattle.zs_machine.specs.History.{text_of}
+use Rattle.zs_session.proofs.Draining.{none_left, fewer_wait}
+use Rattle.zs_session.proofs.Histories.{silent_adds, went_after, went_one}
+use Rattle.zs_session.proofs.Judged.{flies, waiting_stays}
+use Rattle.zs_session.proofs.Phases.{held_none, held_some}
+use Rattle.zs_session.proofs.finishing.check_next.Goals as goal
+
+pub returns-then-len-eq0-clause-none : goal.returns-then-len-eq0-clause-none
+returns-then-len-eq0-clause-none g c is =
+    let none : length c.in_ok-batch.batch.items ≡ 0 = omega (arith, c.len.ensures, c.if-len-eq0.true) in
+    none_left c.args.pool.now.core c.hold.new.self.core.scan 32 c.in_ok-batch.batch.items c.facts.ensures.safe (omega arith) (c.in_ok-batch.ensures.none none) (ap (λ (b : Batch). b.items) c.in_ok-batch.ensures.batch) none
+
+pub returns-then-len-eq0-clause-phase : goal.returns-then-len-eq0-clause-phase
+returns-then-len-eq0-clause-phase g c over may =
+    let none : length c.in_ok-batch.batch.items ≡ 0 = omega (arith, c.len.ensures, c.if-len-eq0.true) in
+    held_none _ _ _ _ _ _ _ c.in_ok-batch.ensures.event (length-map c.in_ok-batch.batch.items (λ (i : Item). i.piece) ∙ none) over may
+
+pub returns-then-len-eq0-clause-silent : goal.returns-then-len-eq0-clause-silent
+returns-then-len-eq0-clause-silent g c = silent_adds _ _ _ _ c.in_ok-batch.ensures.event
+
+pub judge-requires-clause-flies : goal.judge-requires-clause-flies
+judge-requires-clause-flies g c =
+    let some : 1 ≤ length c.in_ok-batch.batch.items = omega (arith, c.len.ensures, c.if-len-eq0.false) in
+    flies c.args.pool.now.core.scan c.hold.new.self.core.scan c.in_ok-batch.batch (c.in_ok-batch.ensures.taken some)
+
+pub returns-in_err-judge-clause-silent : goal.returns-in_err-judge-clause-silent
+returns-in_err-judge-clause-silent g c = ap (λ (p : PoolView). text_of p.history) c.in_err-judge.ensures.err ∙ silent_adds _ _ _ _ c.in_ok-batch.ensures.event
+
+pub returns-clause-fewer : goal.returns-clause-fewer
+returns-clause-fewer g c is =
+    let some : 1 ≤ length c.in_ok-batch.batch.items = omega (arith, c.len.ensures, c.if-len-eq0.false) in
+    subst (λ n. length n < length c.args.pool.now.core.scan.waiting) (sym (waiting_stays _ _ _ _ _ c.in_ok-judge.ensures.verdict))
+    (fewer_wait c.args.pool.now.core.scan 32 0 c.in_ok-batch.batch.items c.hold.new.self.core.scan.waiting c.facts.ensures.safe.orderly (ap (λ (b : Batch). b.items) c.in_ok-batch.ensures.batch) some
+    (ap (λ (v : ScanView). v.waiting) (c.in_ok-batch.ensures.taken some).rest))
+
+pub returns-clause-phase : goal.returns-clause-phase
+returns-clause-phase g c over may =
+    let some : 1 ≤ length c.in_ok-batch.batch.items = omega (arith, c.len.ensures, c.if-len-eq0.false) in
+    held_some _ _ _ _ _ _ _ _ _ _ _ _ c.in_ok-batch.ensures.event c.in_ok-judge.ensures.verdict.event refl (subst (λ n. 1 ≤ n) (sym (length-map c.in_ok-batch.batch.items (λ (i : Item). i.piece))) some) over may
+
+pub returns-clause-goes_on : goal.returns-clause-goes_on
+returns-clause-goes_on g c =
+    went_after _ _ _ _ _ _ _ (went_one _ _ _ _ c.hold.new.self (map g.D.Device.told c.args.devices.now) _ c.in_ok-batch.ensures.event (ap (λ (v : CoreView). v.shape) c.hold.ensures.core) refl) c.in_ok-judge.ensures.goes_on
+
+pub returns-clause-silent : goal.returns-clause-silent
+returns-clause-silent g c = silent_adds _ _ _ _ c.in_ok-judge.ensures.verdict.event ∙ silent_adds _ _ _ _ c.in_ok-batch.ensures.event

@@ -1,0 +1,19 @@
+use Rattle.zs_session.proofs.Histories.{handed, silent_adds}
+use Rattle.zs_session.proofs.Written.{went_written, ends_sync}
+use Rattle.std.proofs.Common.{ap, ◌∙◌}
+use Rattle.zs_core.specs.View.{CoreView}
+use Rattle.zs_session.proofs.finishing.commit.Goals as goal
+
+pub returns-in_err-end_data-clause-silent : goal.returns-in_err-end_data-clause-silent
+returns-in_err-end_data-clause-silent c = handed _ (silent_adds _ _ _ _ c.in_err-end_data.ensures.err.0)
+
+pub returns-in_err-committed-clause-silent : goal.returns-in_err-committed-clause-silent
+returns-in_err-committed-clause-silent c = handed _ (silent_adds _ _ _ _ c.in_err-committed.ensures.err.0 ∙ silent_adds _ _ _ _ c.in_ok-end_data.ensures.step.event)
+
+pub returns-clause-told : goal.returns-clause-told
+returns-clause-told c = ends_sync _ _ _ _ _ _ _ _ c.in_ok-end_data.ensures.step.event c.in_ok-committed.ensures.event
+
+pub returns-clause-goes_on : goal.returns-clause-goes_on
+returns-clause-goes_on c blocks before named sums =
+    went_written _ c.end_data.new.self _ blocks before _ _ c.in_ok-end_data.ensures.step c.in_ok-committed.ensures.event
+    (ap (λ (v : CoreView). v.shape) c.in_ok-end_data.ensures.rest) (ap (λ (v : CoreView). v.shape) c.in_ok-committed.ensures.core) named sums

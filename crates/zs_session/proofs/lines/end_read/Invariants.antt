@@ -1,0 +1,5 @@
+use Rattle.std.specs.Option.{option_copied}
+use Rattle.zs_session.proofs.lines.end_read.Given as goal
+
+abbrev pub ghost-read_end : goal.ghost-read_end
+ghost-read_end a = option_copied a.got

@@ -1,0 +1,78 @@
+-- What of a `finish` or a `sync` may come next, and what each part of it makes of the line's steps.
+use Rattle.std.specs.Prelude.{◌≡◌, ℕ, ◌+◌, min, length, Bool, true, false, List, [], ◌∷◌, ◌++◌, map, option_map}
+use Rattle.zs_ids.specs.declared.block.Item.{Item}
+use Rattle.zs_ids.specs.declared.block.Piece.{Piece}
+use Rattle.zs_ids.specs.Graph.{Has}
+use Rattle.zs_objset.specs.declared.block.StagedBlock.{StagedBlock}
+use Rattle.zs_objset.specs.Staged.{pointers_of}
+use Rattle.zs_sum.specs.Sum.{sha256}
+use Rattle.zs_scan.specs.declared.batch.Turn.{Turn}
+use Rattle.zs_walk.specs.Left.{turns_left}
+use Rattle.zs_machine.specs.declared.event.Event.{Event}
+use Rattle.zs_machine.specs.declared.event.Step.{Step}
+use Rattle.zs_machine.specs.declared.event.Step.TheVariants as step
+use Rattle.zs_machine.specs.Finishing.{Phase, phase_of, phase_after, walked, held}
+use Rattle.zs_machine.specs.Finishing.Phase.{walking, issuing, drained}
+use Rattle.zs_machine.specs.Told.{TellsSync, line_steps}
+use Rattle.zs_core.specs.View.{CoreView, PoolView}
+use Rattle.zs_session.specs.Mirror.{all_put_over}
+use Rattle.zs_session.specs.Plays.{Contents, Went}
+use Rattle.zs_session.specs.declared.turns.Turned.{Turned}
+use Rattle.zs_session.specs.declared.turns.Turned.TheVariants as turned
+
+-- how far a `finish` has come whose steps stand at the end of a history
+abbrev pub phase_at : List Event → Phase
+phase_at es = phase_of (line_steps es)
+
+-- a turn of the walk may come next
+abbrev pub MayWalk : Phase → Type 0
+MayWalk p = (turn : Turn) → phase_after p (step.Walk turn) ≡ walked turn
+
+-- a batch of the one mirror may be taken next, with the walk over or not
+abbrev pub MayHold : Bool → Phase → Type 0
+MayHold over p = (number online : ℕ) (pieces : List Piece) → phase_after p (step.Hold number 0 online pieces) ≡ held over 0 number pieces
+
+-- how far it has come after a turn; none was made that would be refused as full
+abbrev pub turned_to : Turned → Phase → Phase
+turned_to turned.Made p = walking
+turned_to turned.Nothing p = issuing true 0
+turned_to turned.Full p = p
+
+-- a turn of the walk that may come next leads there
+abbrev pub TurnsTo : Turned → List Event → List Event → Type 0
+TurnsTo turned old new = MayWalk (phase_at old) → phase_at new ≡ turned_to turned (phase_at old)
+
+-- how far it has come after a batch was taken and checked, or none waited
+abbrev pub checked_to : Bool → Bool → Phase
+checked_to over true = issuing over 0
+checked_to over false = drained over 1
+
+-- a line made one sync more: it was refused, or its data were written and it was committed
+pub record AddsSync (old new : List Step) : Type 0 where
+  pub made : List Step
+  pub tells : TellsSync made
+  pub is : new ≡ old ++ made
+
+-- a sync that a line has begun was committed; one that stands in no line stays in none
+abbrev pub EndsSync : List Step → List Step → Type 0
+EndsSync [] new = new ≡ []
+EndsSync (s ∷ ss) new = (online : ℕ) × (items : List Item) × (mask : ℕ) × (new ≡ (s ∷ ss) ++ step.EndData online items ∷ step.Committed mask ∷ [])
+
+-- the bytes of each block hash to its sum
+abbrev pub HaveSums : List StagedBlock → Type 0
+HaveSums blocks = (b : StagedBlock) → Has blocks b → sha256 b.bytes ≡ b.bp.sum
+
+-- the sync in progress was committed: whichever blocks with the pointers of its transaction group and with their sums were
+-- written, the devices hold what the pool's events made of them
+abbrev pub Commits : PoolView → PoolView → Type 0
+Commits old new =
+    (blocks : List StagedBlock) (before : Contents) → pointers_of blocks ≡ old.core.pointers → HaveSums blocks
+    → Went old new before (map (option_map (all_put_over blocks)) before) []
+
+-- how many turns of the walk are left
+abbrev pub walk_left : CoreView → ℕ
+walk_left v = turns_left v.state.graph v.scan.run
+
+-- the same, and one more where pieces wait
+abbrev pub finish_left : CoreView → ℕ
+finish_left v = walk_left v + min 1 (length v.scan.waiting)

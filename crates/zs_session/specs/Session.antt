@@ -1,0 +1,83 @@
+-- A session: when the pool is ready for a line, how its history goes on, and how a session ends.
+use Rattle.std.specs.Prelude.{◌≡◌, ℕ, false, List, [], ◌∷◌, ◌++◌, map, take, Result, Option, OnOk, IsErrOf}
+use Rattle.zs_machine.specs.declared.event.Event.{Event}
+use Rattle.zs_machine.specs.declared.event.Stage.TheVariants.{Between}
+use Rattle.zs_core.specs.View.{PoolView}
+use Rattle.zs_machine.specs.Told.{line_steps}
+use Rattle.zs_machine.specs.Commands.{commands_of}
+use Rattle.zs_io.specs.Faults.{Rose}
+use Rattle.zs_script.specs.declared.command.Command.{Command}
+use Rattle.zs_script.specs.declared.command.Command.TheVariants as commands
+use Rattle.zs_script.specs.declared.command.Line.{Line}
+use Rattle.zs_script.specs.declared.refusal.Refusal.{Refusal}
+use Rattle.zs_session.specs.declared.stop.Stop.{Stop}
+use Rattle.zs_session.specs.declared.stop.Stop.TheVariants as stops
+use Rattle.zs_session.specs.Mirror.{SomeRose}
+use Rattle.zs_session.specs.Images.{AreFit, IsImageFault}
+
+-- no sync is in progress, the pool is not suspended, and no read is open
+pub record IsUp (p : PoolView) : Type 0 where
+  pub between : p.core.state.stage ≡ Between
+  pub up : p.core.state.suspended ≡ false
+  pub unread : p.core.state.reads ≡ []
+
+-- the pool is ready for a line: it is up, and no steps of a line stand at the end of its history that no event closed
+pub record IsReady (p : PoolView) : Type 0 where
+  pub between : p.core.state.stage ≡ Between
+  pub up : p.core.state.suspended ≡ false
+  pub unread : p.core.state.reads ≡ []
+  pub fresh : line_steps p.history ≡ []
+
+-- the history is the old one and what came since, which has just these commands
+pub record GoesOn (old new : List Event) (commands : List Command) : Type 0 where
+  pub more : List Event
+  pub is : new ≡ old ++ more
+  pub has : commands_of more ≡ commands
+
+-- the history went on with a beginning of these commands
+pub record GoesPart (old new : List Event) (commands : List Command) : Type 0 where
+  pub many : ℕ
+  pub part : GoesOn old new (take many commands)
+
+-- the commands of lines, in order
+abbrev pub commands_in : List Line → List Command
+commands_in lines = map (λ line. line.command) lines
+
+-- these commands are the first of all
+pub record AreFirst (commands all : List Command) : Type 0 where
+  pub many : ℕ
+  pub first : commands ≡ take many all
+
+-- why lines are no longer run: the count of a device rose, or that of the sink, or memory was wanting
+pub record HasReason {T : Type 0} (devices_before devices_now : List ℕ) (sink_before sink_now : ℕ) (result : Result T Stop) : Type 0 where
+  pub ok : OnOk result (devices_now ≡ devices_before) × OnOk result (sink_now ≡ sink_before)
+  pub device : IsErrOf result stops.Device → SomeRose devices_before devices_now × (sink_now ≡ sink_before)
+  pub sink : IsErrOf result stops.Sink → Rose sink_before sink_now × (devices_now ≡ devices_before)
+  pub memory : IsErrOf result stops.Memory → (devices_now ≡ devices_before) × (sink_now ≡ sink_before)
+
+-- the images fit a `pool` line
+abbrev pub IsFitFor : Command → List ℕ → List (Option (List ℕ)) → Type 0
+IsFitFor (commands.Pool pool width limit every blocks) sizes told = AreFit width blocks sizes told
+IsFitFor _ sizes told = ⊥
+
+-- the images are refused for a `pool` line, and this is the first reason
+abbrev pub IsUnfitFor : Command → List ℕ → List (Option (List ℕ)) → Refusal → Type 0
+IsUnfitFor (commands.Pool pool width limit every blocks) sizes told fault = IsImageFault width blocks sizes told fault
+IsUnfitFor _ sizes told fault = ⊥
+
+-- the images fit the line with which these begin
+abbrev pub AreFitFor : List Line → List ℕ → List (Option (List ℕ)) → Type 0
+AreFitFor [] sizes told = ⊥
+AreFitFor (line ∷ lines) sizes told = IsFitFor line.command sizes told
+
+-- the images are refused for the line with which these begin, and this is the first reason
+abbrev pub AreUnfitFor : List Line → List ℕ → List (Option (List ℕ)) → Refusal → Type 0
+AreUnfitFor [] sizes told fault = ⊥
+AreUnfitFor (line ∷ lines) sizes told fault = IsUnfitFor line.command sizes told fault
+
+-- why replies are no longer put
+pub record HasSinkReason {T : Type 0} (before now : ℕ) (result : Result T Stop) : Type 0 where
+  pub ok : OnOk result (now ≡ before)
+  pub sink : IsErrOf result stops.Sink → Rose before now
+  pub memory : IsErrOf result stops.Memory → now ≡ before
+  pub only : IsErrOf result stops.Device → ⊥

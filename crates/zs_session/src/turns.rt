@@ -1,0 +1,117 @@
+//! Turns of the walk, and the line that makes some of them.
+
+ghost use Rattle.std.specs.Prelude.{◌≡◌, ◌≢◌, ◌≤◌, ◌<◌, ◌+◌, ◌∷◌, [], ℕ, OnOk, OnErr, IfOk, Ok, Err};
+ghost use Rattle.zs_phys.specs.Turn.{HasNoWork};
+ghost use Rattle.zs_scan.specs.Walks.{IsFull};
+ghost use Rattle.zs_core.specs.Line.{IsWhy, waiting_counts};
+ghost use Rattle.zs_machine.specs.Told.{AreTurns, line_steps};
+ghost use Rattle.zs_machine.specs.History.{text_of};
+ghost use Rattle.zs_session.specs.Session.{IsUp, IsReady, GoesOn};
+ghost use Rattle.zs_session.specs.Plays.{WentAlone};
+ghost use Rattle.zs_session.specs.Batches.{GoesOnScanning};
+ghost use Rattle.zs_session.specs.Finish.{TurnsTo, walk_left};
+
+use crate::lines::end_line;
+use std::alloc::{AllocError, Global};
+use zs_core::Pool;
+use zs_ids::Seq;
+use zs_io::BayFault;
+use zs_scan::{Scan, ScanFault, Turn};
+use zs_script::{Command, Reply, WalkEnd};
+
+/// What came of a turn of the walk.
+#[derive(Clone, Copy, Debug, PartialEq, Eq)]
+pub enum Turned {
+    /// It was made.
+    Made,
+    /// There was nothing to walk.
+    Nothing,
+    /// It would put a piece, and as many wait as may.
+    Full,
+}
+
+/// Whether a turn found something to walk.
+fn outcome_of(turn: Turn) -> Turned
+    ensures made { result ≡ Turned.Made → turn ≢ Turn.Nothing }
+    ensures none { result ≢ Turned.Made → turn ≡ Turn.Nothing }
+    ensures full { result ≢ Turned.Full }
+{
+    match turn {
+        Turn::Nothing => Turned::Nothing,
+        Turn::Skip | Turn::Enter | Turn::At | Turn::End => Turned::Made,
+    }
+}
+
+/// Makes a turn of the walk. Fails only for want of memory.
+pub fn turn(pool: &mut Pool, by: u8) -> Result<Turned, BayFault>
+    requires up { IsUp pool.old }
+    ensures up { OnOk result (IsUp pool.new) }
+    ensures goes_on { OnOk result (WentAlone pool.old pool.new []) }
+    ensures made { result ≡ Ok Turned.Made → (n : ℕ) → AreTurns (line_steps pool.old.history) n → AreTurns (line_steps pool.new.history) (n + 1) }
+    ensures none { IfOk result (λ made. made ≢ Turned.Made → (n : ℕ) → AreTurns (line_steps pool.old.history) n → AreTurns (line_steps pool.new.history) n) }
+    ensures scan { OnOk result (GoesOnScanning pool.old.core pool.new.core) }
+    ensures flight { OnOk result (pool.new.core.scan.flight ≡ pool.old.core.scan.flight) }
+    ensures fewer { result ≡ Ok Turned.Made → walk_left pool.new.core < walk_left pool.old.core }
+    ensures nothing { result ≡ Ok Turned.Nothing → HasNoWork pool.new.core.scan.run × (pool.new.core ≡ pool.old.core) }
+    ensures full { result ≡ Ok Turned.Full → IsFull pool.new.core.state.graph pool.new.core.scan × (pool.new.core ≡ pool.old.core) }
+    ensures phase { IfOk result (λ turned. TurnsTo turned pool.old.history pool.new.history) }
+    ensures silent { text_of pool.new.history ≡ text_of pool.old.history }
+    ensures memory { OnErr result (result ≡ Err BayFault.Memory) }
+    ensures went_on { OnErr result (GoesOn pool.old.history pool.new.history []) }
+{
+    match pool.walk(by) {
+        Ok(turn) => Ok(outcome_of(turn)),
+        Err(ScanFault::Full) => Ok(Turned::Full),
+        Err(ScanFault::Memory | ScanFault::ScanBusy) => Err(BayFault::Memory),
+    }
+}
+
+/// Makes turns of the walk until so many were made, none is left or the next one is refused as full. Fails only for want
+/// of memory.
+fn make_turns(pool: &mut Pool, by: u8, most: u32) -> Result<(u32, WalkEnd), BayFault>
+    requires ready { IsReady pool.old }
+    ensures up { OnOk result (IsUp pool.new) }
+    ensures goes_on { OnOk result (WentAlone pool.old pool.new []) }
+    ensures made { IfOk result (λ walked. AreTurns (line_steps pool.new.history) walked.0) }
+    ensures few { IfOk result (λ walked. walked.0 ≤ most) }
+    ensures why { IfOk result (λ walked. IsWhy pool.new.core most walked.0 walked.1) }
+    ensures memory { OnErr result (result ≡ Err BayFault.Memory) }
+    ensures went_on { OnErr result (GoesOn pool.old.history pool.new.history []) }
+{
+    for made in 0..most {
+        match turn(pool, by)? {
+            Turned::Made => {}
+            Turned::Nothing => return Ok((made, WalkEnd::Nothing)),
+            Turned::Full => return Ok((made, WalkEnd::Full)),
+        }
+    }
+    Ok((most, WalkEnd::More))
+}
+
+/// How many pieces wait, for each mirror: there is one.
+fn waiting_counts(alloc: Global, scan: &Scan) -> Result<Seq<u32>, AllocError>
+    ensures { IfOk result (λ counts. counts ≡ waiting_counts scan.now) }
+{
+    let counts = Vec::from_array(alloc, [scan.waiting_of(0)])?;
+    Ok(Seq::from_vec(counts))
+}
+
+/// Makes at most so many turns of the walk, as a line. Fails only for want of memory.
+pub fn walk(alloc: Global, pool: &mut Pool, by: u8, turns: u32) -> Result<(), BayFault>
+    requires ready { IsReady pool.old }
+    ensures ready { OnOk result (IsReady pool.new) }
+    ensures goes_on { OnOk result (WentAlone pool.old pool.new (Command.Walk turns ∷ [])) }
+    ensures memory { OnErr result (result ≡ Err BayFault.Memory) }
+    ensures went_on { OnErr result (GoesOn pool.old.history pool.new.history []) }
+{
+    let (made, why) = make_turns(pool, by, turns)?;
+    let Ok(waiting) = waiting_counts(alloc, pool.scan()) else {
+        return Err(BayFault::Memory);
+    };
+    let reply = Reply::Walked {
+        turns: made,
+        why,
+        waiting,
+    };
+    end_line(pool, by, &Command::Walk { turns }, reply)
+}

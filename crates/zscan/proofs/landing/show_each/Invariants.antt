@@ -1,6 +1,0 @@
-use Rattle.std.proofs.Common.{◌≡◌, ◌++◌, map, take}
-use Rattle.zs_core.specs.Told.{landed_of}
-use Rattle.zscan.proofs.landing.show_each.Given as goal
-
-abbrev pub invariant-loop-piece : goal.invariant-loop-piece
-invariant-loop-piece l = l.landed.items ≡ l.initial.landed.items ++ map (landed_of l.entries) (take l.piece-index l.pieces)

@@ -1,5 +1,0 @@
-use Rattle.std.specs.Option.{option_copied}
-use Rattle.zscan.proofs.lines.end_read.Given as goal
-
-abbrev pub ghost-read_end : goal.ghost-read_end
-ghost-read_end a = option_copied a.got
