@@ -38,4 +38,4 @@ mod tasks;
 mod tests;
 
 pub use pool::{Pool, PoolFault, Verdicts};
-pub use zs_machine::{CommitFault, Event, OpenRead, ReadPlan, Shape, Stage, Step, data_start};
+pub use zs_machine::{Event, OpenRead, ReadPlan, Shape, Stage, Step, data_start};

@@ -37,8 +37,8 @@ use std::marker::Model;
 use zs_ids::limits::TXG_END;
 use zs_ids::{DsName, Item, Piece, Seq};
 use zs_ledger::Entry;
-use zs_machine::{CommitFault, Event, ReadPlan, Shape, Stage, Step};
-use zs_objset::Staged;
+use zs_machine::{Event, ReadPlan, Shape, Stage, Step};
+use zs_objset::{CommitFault, Staged};
 use zs_scan::{Batch, Scan, ScanFault, Turn};
 use zs_script::{Command, Refusal, Reply};
 use zs_txg::Task;
@@ -555,7 +555,8 @@ impl Pool {
     {
         self.history.reserve(ROOM)?;
         let mut pieces = Vec::new(self.alloc);
-        pieces.reserve(n as usize)?;
+        let most = n.min(self.present.scan().waiting_of(vdev));
+        pieces.reserve(most as usize)?;
         let Ok(batch) = self.present.take(vdev, n) else {
             return Err(AllocError);
         };

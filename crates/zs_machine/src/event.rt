@@ -2,6 +2,7 @@
 
 use zs_ids::{DsName, Item, Piece, Seq};
 use zs_ledger::Entry;
+use zs_objset::CommitFault;
 use zs_scan::Turn;
 use zs_script::{Command, Reply};
 
@@ -14,13 +15,6 @@ pub enum Stage {
     Writing,
     /// The graph has the changes; what a commit writes of it is being written.
     Labelling,
-}
-
-/// Why a commit failed.
-#[derive(Clone, Copy, Debug, PartialEq, Eq)]
-pub enum CommitFault {
-    /// Memory was wanting.
-    Memory,
 }
 
 /// Where the answer of a read comes from.

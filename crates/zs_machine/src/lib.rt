@@ -24,5 +24,5 @@ pub mod event;
 pub mod laws;
 pub mod shape;
 
-pub use event::{CommitFault, Event, OpenRead, ReadPlan, Stage, Step};
+pub use event::{Event, OpenRead, ReadPlan, Stage, Step};
 pub use shape::{Shape, data_start};

@@ -1,4 +1,4 @@
-//! A block that a sync writes.
+//! A block that a sync writes, and why a sync may fail.
 
 use zs_ids::{Bp, DsId, Key, Seq};
 
@@ -24,4 +24,11 @@ pub struct Staged {
     pub online: u32,
     /// The blocks.
     pub blocks: Seq<StagedBlock>,
+}
+
+/// Why a commit failed.
+#[derive(Clone, Copy, Debug, PartialEq, Eq)]
+pub enum CommitFault {
+    /// Memory was wanting.
+    Memory,
 }

@@ -17,7 +17,7 @@ pub mod bytes;
 pub mod staged;
 
 pub use above::needed;
-pub use block::{Staged, StagedBlock};
+pub use block::{CommitFault, Staged, StagedBlock};
 pub use bytes::block_bytes;
 pub use staged::staged_blocks;
 
