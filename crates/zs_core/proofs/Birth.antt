@@ -20,7 +20,7 @@ use Rattle.zs_ids.specs.declared.dataset.DsId.{DsId}
 use Rattle.zs_ids.specs.declared.dataset.Name.{Name}
 use Rattle.zs_ids.specs.Blocks.{IsInKeyOrder}
 use Rattle.zs_ids.specs.Graph.{Graph, Has, pieces_of, IsLive}
-use Rattle.zs_ledger.specs.Kept.{piece_cmp}
+use Rattle.zs_ids.specs.Piece.{piece_cmp}
 use Rattle.zs_queue.specs.Order.{piece_total, equal_pieces}
 use Rattle.zs_txg.specs.declared.staged.Staging.{Staging}
 use Rattle.zs_txg.specs.Txg.{Slot, staged_for}

@@ -3,7 +3,7 @@
 
 ghost use Rattle.std.specs.Prelude.{◌≡◌, [], List, IfOk, OnOk, OnErr, map, true, false};
 ghost use Rattle.std.specs.List.Sorted.{IsSortedByKey};
-ghost use Rattle.zs_ledger.specs.Kept.{piece_cmp};
+ghost use Rattle.zs_ids.specs.Piece.{piece_cmp};
 ghost use Rattle.zs_scan.specs.Walks.{item_of};
 ghost use Rattle.zs_ids.specs.declared.block.Piece.{Piece};
 ghost use Rattle.zs_scan.specs.Steps.{IsComplete};

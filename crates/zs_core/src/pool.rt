@@ -46,8 +46,8 @@ use zs_txg::Task;
 /// Why a call of the pool gave no answer of its own.
 #[derive(Clone, Copy, Debug, PartialEq, Eq)]
 pub enum PoolFault {
-    /// It is refused; the event that was recorded has the reply.
-    Refused,
+    /// It is refused for this reason; the event that was recorded has the reply.
+    Refused(Refusal),
     /// Memory was wanting.
     Memory,
 }
@@ -389,10 +389,11 @@ impl Pool {
         ensures within { IfOk result (λ staged. AreInRoom (room_in self.old.core.shape self.old.core.end_sector 0) staged.blocks) }
         ensures pointers { IfOk result (λ staged. self.new.core.pointers ≡ pointers_of staged.blocks) }
         ensures rest { self.new.core ≡ record self.old.core { state = self.new.core.state; pointers = self.new.core.pointers } }
-        ensures told { IsErrOf result PoolFault.Refused →
-            AddsEvent 0 Step.BeginSync (Reply.RefusedSync 4294967295 Refusal.TxgEnd) self.old.history self.new.history }
-        ensures end { IsErrOf result PoolFault.Refused → self.old.core.state.open_txg.txg ≡ 4294967295 }
-        ensures refused { IsErrOf result PoolFault.Refused → self.new.core ≡ self.old.core }
+        ensures told { (why : Refusal) → IsErrOf result (PoolFault.Refused why) →
+            (why ≡ Refusal.TxgEnd) ×
+            AddsEvent 0 Step.BeginSync (Reply.RefusedSync TXG_END Refusal.TxgEnd) self.old.history self.new.history }
+        ensures end { (why : Refusal) → IsErrOf result (PoolFault.Refused why) → self.old.core.state.open_txg.txg ≡ TXG_END }
+        ensures refused { (why : Refusal) → IsErrOf result (PoolFault.Refused why) → self.new.core ≡ self.old.core }
         ensures memory { IsErrOf result PoolFault.Memory → self.new ≡ self.old }
     {
         self.history.reserve(ROOM)?;
@@ -407,7 +408,7 @@ impl Pool {
                 },
             };
             note(&mut self.history, event);
-            return Err(PoolFault::Refused);
+            return Err(PoolFault::Refused(Refusal::TxgEnd));
         }
         let blocks = self.present.begin()?;
         let event = Event {
@@ -479,12 +480,13 @@ impl Pool {
     }
 
     /// Commits what was applied, and answers its reply. After want of memory the pool is suspended.
-    pub fn committed(&mut self) -> Result<(), AllocError>
+    pub fn committed(&mut self) -> Result<Reply, AllocError>
         requires labelling { self.old.core.state.stage ≡ Stage.Labelling }
         requires up { self.old.core.state.suspended ≡ false }
         ensures event { OnOk result
             (AddsEvent 0 (Step.Committed self.old.core.state.online)
             (committed_reply self.old.core.state) self.old.history self.new.history) }
+        ensures answer { IfOk result (λ answer. answer ≡ committed_reply self.old.core.state) }
         ensures core { OnOk result (self.new.core ≡ record self.old.core { state = record self.old.core.state { stage = Stage.Between } }) }
         ensures err { OnErr result
             (AddsEvent 0
@@ -492,7 +494,10 @@ impl Pool {
             (self.new.core ≡ record self.old.core { state = halted self.old.core.state })) }
     {
         let online = self.present.online();
-        let Ok(reply) = self.present.committed_reply() else {
+        let (Ok(reply), Ok(answer)) = (
+            self.present.committed_reply(),
+            self.present.committed_reply(),
+        ) else {
             self.present.suspend();
             note(&mut self.history, suspended(online));
             return Err(AllocError);
@@ -504,7 +509,7 @@ impl Pool {
             reply,
         };
         note(&mut self.history, event);
-        Ok(())
+        Ok(answer)
     }
 
     /// Makes one turn of the walk. Refused as `Full` exactly where the turn would put a piece and as many wait as may; then
@@ -633,11 +638,11 @@ impl Pool {
             (λ plan. self.new.core
             ≡ with_read self.old.core (record { by = by; ds = ds.now; object = object; leaf = leaf; plan = plan })) }
         ensures within { IfOk result (IsPlanInRoom (room_in self.old.core.shape self.old.core.end_sector 0)) }
-        ensures told { IsErrOf result PoolFault.Refused →
-            (why : Refusal) × (read_refusal self.old.core.state ds.now object leaf ≡ Some why) ×
+        ensures told { (why : Refusal) → IsErrOf result (PoolFault.Refused why) →
+            (read_refusal self.old.core.state ds.now object leaf ≡ Some why) ×
             AddsEvent by (Step.ReadBegin (Command.Read ds.now object leaf) None)
             (Reply.Refused why) self.old.history self.new.history }
-        ensures refused { IsErrOf result PoolFault.Refused → self.new.core ≡ self.old.core }
+        ensures refused { (why : Refusal) → IsErrOf result (PoolFault.Refused why) → self.new.core ≡ self.old.core }
         ensures memory { IsErrOf result PoolFault.Memory → self.new ≡ self.old }
     {
         self.history.reserve(ROOM)?;
@@ -664,7 +669,7 @@ impl Pool {
                     reply: Reply::Refused(refusal),
                 };
                 note(&mut self.history, event);
-                Err(PoolFault::Refused)
+                Err(PoolFault::Refused(refusal))
             }
         }
     }

@@ -120,7 +120,7 @@ fn make(alloc: Global, pool: &mut Pool, line: &str) -> Result<bool, Fail>
 {
     let size: u32 = 512;
     if !size.is_power_of_two() {
-        return Err(Fail::from(PoolFault::Refused));
+        return Err(Fail::from(PoolFault::Memory));
     }
     let make = Command::Make {
         ds: HEAD,
@@ -139,7 +139,7 @@ fn with_record(alloc: Global) -> Result<Pool, Fail>
 {
     let mut pool = with_head(alloc)?;
     if !make(alloc, &mut pool, "wrote a 1 0 3\n")? {
-        return Err(Fail::from(PoolFault::Refused));
+        return Err(Fail::from(PoolFault::Memory));
     }
     Ok(pool)
 }
@@ -263,7 +263,7 @@ fn begins_read(pool: &mut Pool, by: u8) -> Result<bool, Fail> {
 
 /// Whether a read of the record is refused.
 fn refuses_read(pool: &mut Pool) -> bool {
-    pool.read_begin(1, &HEAD, 1, 0) == Err(PoolFault::Refused)
+    pool.read_begin(1, &HEAD, 1, 0) == Err(PoolFault::Refused(Refusal::NoObject))
 }
 
 #[test]
@@ -337,7 +337,7 @@ fn judged(alloc: Global, pool: &mut Pool, number: u64, item: &Item) -> Result<us
 fn walked(pool: &mut Pool) -> Result<u32, Fail> {
     for made in 0..10 {
         if pool.is_suspended() {
-            return Err(Fail::from(PoolFault::Refused));
+            return Err(Fail::from(PoolFault::Memory));
         }
         if pool.walk(0)? == Turn::Nothing {
             return Ok(made);
@@ -349,7 +349,7 @@ fn walked(pool: &mut Pool) -> Result<u32, Fail> {
 /// Takes up to ten pieces, and answers how many.
 fn holds(pool: &mut Pool) -> Result<usize, Fail> {
     if pool.is_suspended() {
-        return Err(Fail::from(PoolFault::Refused));
+        return Err(Fail::from(PoolFault::Memory));
     }
     Ok(pool.hold(0, 0, 10)?.items.len())
 }
@@ -358,7 +358,7 @@ fn holds(pool: &mut Pool) -> Result<usize, Fail> {
 /// entries were made each time.
 fn verdicts(alloc: Global, pool: &mut Pool) -> Result<(usize, usize, usize), Fail> {
     if pool.is_suspended() {
-        return Err(Fail::from(PoolFault::Refused));
+        return Err(Fail::from(PoolFault::Memory));
     }
     let batch = pool.hold(0, 0, 1)?;
     match batch.items.as_slice() {
@@ -368,7 +368,7 @@ fn verdicts(alloc: Global, pool: &mut Pool) -> Result<(usize, usize, usize), Fai
             let again = judged(alloc, pool, batch.number, item)?;
             Ok((other, own, again))
         }
-        _ => Err(Fail::from(PoolFault::Refused)),
+        _ => Err(Fail::from(PoolFault::Memory)),
     }
 }
 
@@ -410,7 +410,7 @@ fn nothing_is_taken_where_nothing_waits(rt: HostRuntime) -> Result<(), Fail> {
 fn a_finish_without_a_scan_is_a_line(rt: HostRuntime) -> Result<(), Fail> {
     let mut pool = made(rt.alloc())?;
     if pool.is_scanning() {
-        return Err(Fail::from(PoolFault::Refused));
+        return Err(Fail::from(PoolFault::Memory));
     }
     pool.line(0, &Command::Finish, Reply::Refused(Refusal::NoScan))?;
     assert!(rt;

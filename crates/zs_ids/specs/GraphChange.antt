@@ -1,4 +1,4 @@
--- The changes of a list of datasets, with what each asks, and the pieces that a change frees.
+-- The changes of a list of datasets, with what each asks.
 use Rattle.std.specs.Prelude.{◌≡◌, ◌≢◌, ◌<◌, ◌++◌, ℕ, true, false, not, List, [], ◌∷◌, Option, Some, map, filter, length, option_to_list, if◌then◌else◌}
 use Rattle.zs_ids.specs.declared.key.Key.{Key}
 use Rattle.zs_ids.specs.declared.block.Bp.{Bp}
@@ -8,14 +8,9 @@ use Rattle.zs_ids.specs.declared.dataset.Name.{Name}
 use Rattle.zs_ids.specs.declared.dataset.TheConstants.DsId.{ORIGIN}
 use Rattle.zs_ids.specs.declared.dataset.TheConstants.Name.{EMPTY}
 use Rattle.zs_ids.specs.Blocks.{replaced, IsInKeyOrder}
-use Rattle.zs_ids.specs.Graph.{Has, Dataset, Graph, IsLive}
+use Rattle.zs_ids.specs.Graph.{Has, Dataset, Graph}
 use Rattle.zs_ids.specs.GraphTree.{is_id, start_of, stands_on, children_of}
 use Rattle.zs_ids.specs.GraphValid.{origin, HasBlocks, AreApart, IsWithin, Room}
-
--- a change frees the pieces that were live before it and are not after it
-pub record IsFreed (old new : Graph) (p : Piece) : Type 0 where
-  pub was : IsLive old p
-  pub gone : IsLive new p → ⊥
 
 -- a new id: ids are given in rising order and never again
 abbrev pub IsNewId : Graph → DsId → Type 0

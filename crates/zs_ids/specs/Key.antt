@@ -21,10 +21,6 @@ dnode_key n = record { object = n - n % 32; rank = 0; leaf = 0; depth = 1 }
 abbrev pub record_key : ℕ → ℕ → Key
 record_key n f = record { object = n; rank = 1; leaf = f; depth = 3 }
 
--- the key of the top block of object n, which has that many levels
-abbrev pub top_key : ℕ → ℕ → Key
-top_key n levels = record { object = n; rank = 1; leaf = 0; depth = 4 - levels }
-
 -- the block that has the pointer to the block at a key, in an object of that many levels: the root has none,
 -- the root has those of the dnode blocks, an object's top block stands in its dnode, and every other block in
 -- the block of the next level that covers its first leaf

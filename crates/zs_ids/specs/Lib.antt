@@ -5,3 +5,4 @@ pub mod Graph
 pub mod GraphTree
 pub mod GraphValid
 pub mod GraphChange
+pub mod Piece

@@ -18,7 +18,8 @@ use Rattle.zs_ids.specs.declared.block.Piece.{Piece}
 use Rattle.zs_ledger.specs.declared.entry.Entry.{Entry}
 use Rattle.zs_ledger.specs.declared.ledger.Spot.{Spot}
 use Rattle.zs_ledger.specs.Entry.{has_error}
-use Rattle.zs_ledger.specs.Kept.{AgreesWith, is_spot, is_piece, has_piece, spot_of}
+use Rattle.zs_ids.specs.Piece.{is_piece}
+use Rattle.zs_ledger.specs.Kept.{AgreesWith, is_spot, has_piece, spot_of}
 
 same_both_ways : (m n : ℕ) → (m == n) ≡ (n == m)
 same_both_ways m n = grind arith

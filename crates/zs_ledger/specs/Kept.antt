@@ -1,8 +1,7 @@
 -- What a ledger is seen as, and how its parts agree.
 use Rattle.std.specs.Prelude.{◌≡◌, ℕ, Bool, ◌==◌, ◌&&◌, List, filter, length}
 use Rattle.std.specs.List.{list_any}
-use Rattle.std.specs.Ordering.{nat_cmp, ordering_then}
-use Rattle.std.specs.declared.cmp.Ordering.{Ordering}
+use Rattle.zs_ids.specs.Piece.{is_piece}
 use Rattle.zs_ids.specs.declared.block.Piece.{Piece}
 use Rattle.zs_ledger.specs.declared.entry.Entry.{Entry}
 use Rattle.zs_ledger.specs.declared.ledger.Spot.{Spot}
@@ -12,14 +11,6 @@ use Rattle.zs_ledger.specs.Entry.{has_error}
 pub record Kept : Type 0 where
   pub entries : List Entry
   pub room : ℕ
-
--- pieces in lexicographic order of mirror, sector and birth
-abbrev pub piece_cmp : Piece → Piece → Ordering
-piece_cmp p q = ordering_then (ordering_then (nat_cmp p.place.vdev q.place.vdev) (nat_cmp p.place.sector q.place.sector)) (nat_cmp p.birth q.birth)
-
--- the two are one piece
-abbrev pub is_piece : Piece → Piece → Bool
-is_piece p q = (p.place.vdev == q.place.vdev) && ((p.place.sector == q.place.sector) && (p.birth == q.birth))
 
 -- an entry is of the piece
 abbrev pub has_piece : List Entry → Piece → Bool

@@ -6,7 +6,8 @@ ghost use Rattle.zs_ids.specs.Graph.{Has};
 ghost use Rattle.zs_ledger.specs.Entry.{failed_on, has_error, has_failed_birth};
 ghost use Rattle.zs_ranges.specs.Set.{has_txg};
 ghost use Rattle.std.specs.List.{list_any};
-ghost use Rattle.zs_ledger.specs.Kept.{has_piece, piece_cmp};
+ghost use Rattle.zs_ids.specs.Piece.{piece_cmp};
+ghost use Rattle.zs_ledger.specs.Kept.{has_piece};
 
 use crate::entry::Entry;
 use std::alloc::{AllocError, Global};

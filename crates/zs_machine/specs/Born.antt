@@ -4,7 +4,7 @@ use Rattle.std.specs.List.Sorted.{IsStrictlySortedBy}
 use Rattle.zs_ids.specs.declared.block.Item.{Item}
 use Rattle.zs_ids.specs.declared.block.Piece.{Piece}
 use Rattle.zs_ids.specs.Graph.{Graph, Has, IsLive}
-use Rattle.zs_ledger.specs.Kept.{piece_cmp}
+use Rattle.zs_ids.specs.Piece.{piece_cmp}
 use Rattle.zs_scan.specs.View.{pieces_in, has_item}
 use Rattle.zs_scan.specs.Covered.{IsOfBlock}
 

@@ -4,7 +4,7 @@ use Rattle.zs_ids.specs.declared.block.Piece.{Piece}
 use Rattle.zs_ledger.specs.declared.entry.Entry.{Entry}
 use Rattle.zs_ledger.specs.declared.entry.CopyResult.{CopyResult}
 use Rattle.zs_ledger.specs.declared.entry.CopyResult.TheVariants as copies
-use Rattle.zs_ledger.specs.Kept.{is_piece}
+use Rattle.zs_ids.specs.Piece.{is_piece}
 use Rattle.zs_scan.specs.declared.batch.Turn.TheVariants as turns
 use Rattle.zs_script.specs.declared.command.Command.{Command}
 use Rattle.zs_script.specs.declared.command.Command.TheVariants as command

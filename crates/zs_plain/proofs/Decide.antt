@@ -10,7 +10,8 @@ use Rattle.zs_ids.specs.declared.dataset.DsId.{DsId}
 use Rattle.zs_ids.specs.Graph.{Has}
 use Rattle.zs_ids.specs.GraphTree.{is_id}
 use Rattle.zs_cover.proofs.Graphs.{id_is, is_id-same}
-use Rattle.zs_plain.specs.Tests.{has_id, is_piece, has_piece}
+use Rattle.zs_ids.specs.Piece.{is_piece}
+use Rattle.zs_plain.specs.Tests.{has_id, has_piece}
 use mathlib.Core.Logic.{inl, inr}
 
 -- a test that decides a fact decides an equal one
@@ -80,16 +81,17 @@ same_piece p q = (is, from)
   where
     is : is_piece p q ≡ true → p ≡ q
     is e =
-        let parts = and_parts (p.place.vdev == q.place.vdev && p.place.sector == q.place.sector) (p.birth == q.birth) e in
-        let at = and_parts (p.place.vdev == q.place.vdev) (p.place.sector == q.place.sector) parts.0 in
-        let v = eqb-true p.place.vdev q.place.vdev at.0 in
-        let s = eqb-true p.place.sector q.place.sector at.1 in
-        let b = eqb-true p.birth q.birth parts.1 in
+        let parts = and_parts (p.place.vdev == q.place.vdev) (p.place.sector == q.place.sector && p.birth == q.birth) e in
+        let rest = and_parts (p.place.sector == q.place.sector) (p.birth == q.birth) parts.1 in
+        let v = eqb-true p.place.vdev q.place.vdev parts.0 in
+        let s = eqb-true p.place.sector q.place.sector rest.0 in
+        let b = eqb-true p.birth q.birth rest.1 in
         ap (λ (n : ℕ). piece (place n p.place.sector) p.birth) v ∙ ap (λ (n : ℕ). piece (place q.place.vdev n) p.birth) s ∙ ap (λ (n : ℕ). piece q.place n) b
 
     from : p ≡ q → is_piece p q ≡ true
     from e =
-        and_from (p.place.vdev == q.place.vdev && p.place.sector == q.place.sector) (p.birth == q.birth) (and_from (p.place.vdev == q.place.vdev) (p.place.sector == q.place.sector) (eq-eqb p.place.vdev q.place.vdev (ap (λ (x : Piece). x.place.vdev) e)) (eq-eqb p.place.sector q.place.sector (ap (λ (x : Piece). x.place.sector) e))) (eq-eqb p.birth q.birth (ap (λ (x : Piece). x.birth) e))
+        and_from (p.place.vdev == q.place.vdev) (p.place.sector == q.place.sector && p.birth == q.birth) (eq-eqb p.place.vdev q.place.vdev (ap (λ (x : Piece). x.place.vdev) e))
+        (and_from (p.place.sector == q.place.sector) (p.birth == q.birth) (eq-eqb p.place.sector q.place.sector (ap (λ (x : Piece). x.place.sector) e)) (eq-eqb p.birth q.birth (ap (λ (x : Piece). x.birth) e)))
 
 pub has_piece-is : (ps : List Piece) (p : Piece) → Decides (has_piece ps p) (Has ps p)
 has_piece-is ps p = has-of (λ (q : Piece). is_piece q p) p (λ q. same_piece q p) ps

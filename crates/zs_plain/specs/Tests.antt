@@ -3,6 +3,7 @@ use Rattle.std.specs.Prelude.{◌==◌, ◌&&◌, ◌||◌, not, ℕ, Bool, fals
 use Rattle.std.specs.List.{list_any}
 use Rattle.zs_ids.specs.declared.key.Key.{Key}
 use Rattle.zs_ids.specs.declared.block.Bp.{Bp}
+use Rattle.zs_ids.specs.Piece.{is_piece}
 use Rattle.zs_ids.specs.declared.block.Piece.{Piece}
 use Rattle.zs_ids.specs.declared.dataset.DsId.{DsId}
 use Rattle.zs_ids.specs.Graph.{Dataset, pieces_of}
@@ -11,10 +12,6 @@ use Rattle.zs_ids.specs.GraphTree.{is_id}
 -- the list has the id
 abbrev pub has_id : List DsId → DsId → Bool
 has_id ids id = list_any (λ x. is_id x id) ids
-
--- the two pieces are one
-abbrev pub is_piece : Piece → Piece → Bool
-is_piece p q = (p.place.vdev == q.place.vdev && p.place.sector == q.place.sector) && p.birth == q.birth
 
 -- the list has the piece
 abbrev pub has_piece : List Piece → Piece → Bool

@@ -13,7 +13,8 @@ use Rattle.std.specs.BTreeMap.{insert_entry, is_at}
 use Rattle.zs_ids.specs.Graph.{Has}
 use Rattle.zs_ids.specs.declared.block.Piece.{Piece}
 use Rattle.zs_ids.specs.declared.block.Item.{Item}
-use Rattle.zs_queue.specs.Waiting.{is_of, piece_cmp, waits, with_item, without}
+use Rattle.zs_ids.specs.Piece.{piece_cmp}
+use Rattle.zs_queue.specs.Waiting.{is_of, waits, with_item, without}
 use Rattle.zs_queue.specs.Kept.{IsKept}
 use Rattle.zs_queue.specs.Order.{equal_pieces, tests_equal}
 use Rattle.zs_queue.proofs.Entries.{passing-insert, has-insert, passing-remove, has-remove, length-remove, none_left}

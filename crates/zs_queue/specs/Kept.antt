@@ -5,7 +5,8 @@ use Rattle.std.specs.List.Sorted.{IsStrictlySortedBy}
 use Rattle.zs_ids.specs.declared.block.Piece.{Piece}
 use Rattle.zs_ids.specs.declared.block.Item.{Item}
 use Rattle.zs_ids.specs.Graph.{Has}
-use Rattle.zs_queue.specs.Waiting.{is_of, piece_cmp}
+use Rattle.zs_ids.specs.Piece.{piece_cmp}
+use Rattle.zs_queue.specs.Waiting.{is_of}
 
 -- each item stands beside its own piece
 abbrev pub AreNamed : List (Piece × Item) → Type 0

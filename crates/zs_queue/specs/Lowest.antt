@@ -6,7 +6,8 @@ use Rattle.std.proofs.lemmas.List.Kept.{IsStrictlySortedBy-filter}
 use Rattle.zs_ids.specs.declared.block.Piece.{Piece}
 use Rattle.zs_ids.specs.declared.block.Item.{Item}
 use Rattle.zs_ids.specs.Graph.{Has}
-use Rattle.zs_queue.specs.Waiting.{IsBatch, is_of, lowest, piece_cmp}
+use Rattle.zs_ids.specs.Piece.{piece_cmp}
+use Rattle.zs_queue.specs.Waiting.{IsBatch, is_of, lowest}
 use Rattle.zs_queue.specs.Kept.{AreNamed}
 use Rattle.zs_queue.specs.Lists.{has-take, has-filter, has-map, sorted-take}
 

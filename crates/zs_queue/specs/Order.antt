@@ -7,7 +7,7 @@ use Rattle.std.specs.declared.cmp.Ordering.TheVariants.{Less, Equal, Greater}
 use Rattle.std.proofs.lemmas.Cmp.{nat_cmp_total, on_total, then_total}
 use Rattle.std.proofs.lemmas.Map.Lookups.{exact_unsigned}
 use Rattle.zs_ids.specs.declared.block.Piece.{Piece}
-use Rattle.zs_queue.specs.Waiting.{piece_cmp}
+use Rattle.zs_ids.specs.Piece.{piece_cmp}
 
 pub piece_total : IsTotalOrder piece_cmp
 piece_total =

@@ -5,7 +5,8 @@ use Rattle.std.specs.BTreeMap.Range.{entries_between}
 use Rattle.std.specs.declared.ops.Bound.TheVariants.{Included, Unbounded}
 use Rattle.zs_ids.specs.declared.block.Piece.{Piece}
 use Rattle.zs_ids.specs.declared.block.Item.{Item}
-use Rattle.zs_queue.specs.Waiting.{is_of, piece_cmp}
+use Rattle.zs_ids.specs.Piece.{piece_cmp}
+use Rattle.zs_queue.specs.Waiting.{is_of}
 
 -- the least piece of a mirror
 abbrev pub least_of : ℕ → Piece

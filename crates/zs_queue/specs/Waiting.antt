@@ -2,17 +2,13 @@
 use Rattle.std.specs.Prelude.{◌≡◌, ℕ, ◌==◌, ◌<◌, ◌≤◌, Bool, not, List, map, filter, take, length, is_some}
 use Rattle.std.specs.List.{list_any}
 use Rattle.std.specs.List.Sorted.{IsStrictlySortedBy}
-use Rattle.std.specs.Ordering.{nat_cmp, ordering_then, is_eq}
-use Rattle.std.specs.declared.cmp.Ordering.{Ordering}
+use Rattle.std.specs.Ordering.{is_eq}
 use Rattle.std.specs.Map.{lookup}
 use Rattle.std.specs.BTreeMap.{insert_entry, is_at}
+use Rattle.zs_ids.specs.Piece.{piece_cmp}
 use Rattle.zs_ids.specs.declared.block.Piece.{Piece}
 use Rattle.zs_ids.specs.declared.block.Item.{Item}
 use Rattle.zs_ids.specs.Graph.{Has}
-
--- pieces in order of address: by mirror, sector and birth
-abbrev pub piece_cmp : Piece → Piece → Ordering
-piece_cmp p q = ordering_then (ordering_then (nat_cmp p.place.vdev q.place.vdev) (nat_cmp p.place.sector q.place.sector)) (nat_cmp p.birth q.birth)
 
 -- the piece waits
 abbrev pub waits : List (Piece × Item) → Piece → Bool

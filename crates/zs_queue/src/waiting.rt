@@ -3,7 +3,8 @@
 ghost use Rattle.std.specs.Prelude.{◌≡◌, ℕ, ◌≤◌, ◌↔◌, List, [], ◌∷◌, false, Err, map, filter, length, OnOk, OnErr, IfOk};
 ghost use Rattle.std.specs.BTreeMap.{is_at};
 ghost use Rattle.std.specs.Map.{lookup};
-ghost use Rattle.zs_queue.specs.Waiting.{IsBatch, is_of, piece_cmp, waits, with_item, without};
+ghost use Rattle.zs_ids.specs.Piece.{piece_cmp};
+ghost use Rattle.zs_queue.specs.Waiting.{IsBatch, is_of, waits, with_item, without};
 
 use std::alloc::AllocError;
 use zs_ids::{Item, Piece};

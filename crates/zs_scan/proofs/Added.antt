@@ -7,7 +7,8 @@ use Rattle.zs_ids.specs.declared.block.Item.{Item}
 use Rattle.zs_ids.specs.Graph.{Graph, Has, pieces_of}
 use Rattle.zs_ledger.specs.declared.entry.Entry.{Entry}
 use Rattle.zs_ledger.specs.Entry.{HaveCopies}
-use Rattle.zs_ledger.specs.Kept.{has_piece, is_piece}
+use Rattle.zs_ids.specs.Piece.{is_piece}
+use Rattle.zs_ledger.specs.Kept.{has_piece}
 use Rattle.zs_phys.specs.declared.scope.Scope.{Scope}
 use Rattle.zs_queue.specs.Lists.{has-filter}
 use Rattle.zs_scan.specs.View.{Mark, ScanView, mark_of, flies_in}

@@ -6,7 +6,7 @@ use Rattle.std.specs.declared.cmp.Ordering.TheVariants.{Less, Equal, Greater}
 use Rattle.std.specs.Map.{lookup, remove_entry}
 use Rattle.std.specs.BTreeMap.{insert_entry, is_at}
 use Rattle.zs_ids.specs.declared.block.Piece.{Piece}
-use Rattle.zs_queue.specs.Waiting.{piece_cmp}
+use Rattle.zs_ids.specs.Piece.{piece_cmp}
 use Rattle.zs_queue.specs.Lists.{passing-cons}
 use Rattle.zs_scan.specs.View.{Mark, mark_of, flies, is_flying}
 

@@ -5,7 +5,7 @@ use Rattle.std.proofs.lemmas.List.Folds.{list_any-append}
 use Rattle.zs_ids.specs.declared.block.Piece.{Piece}
 use Rattle.zs_ids.specs.declared.block.Item.{Item}
 use Rattle.std.specs.List.Sorted.{IsStrictlySortedBy}
-use Rattle.zs_queue.specs.Waiting.{piece_cmp}
+use Rattle.zs_ids.specs.Piece.{piece_cmp}
 use Rattle.zs_scan.specs.View.{Mark, is_same, mark_of, has_item, pieces_in, MarksAs}
 use Rattle.zs_scan.proofs.Pieces.{rising_apart, among_all}
 

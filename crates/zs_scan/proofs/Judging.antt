@@ -11,8 +11,9 @@ use Rattle.zs_ids.specs.declared.block.Item.{Item}
 use Rattle.zs_ids.specs.Graph.{Has}
 use Rattle.zs_ledger.specs.declared.entry.Entry.{Entry}
 use Rattle.zs_ledger.specs.Entry.{HaveCopies}
-use Rattle.zs_ledger.specs.Kept.{has_piece, is_piece}
-use Rattle.zs_queue.specs.Waiting.{piece_cmp}
+use Rattle.zs_ids.specs.Piece.{is_piece}
+use Rattle.zs_ledger.specs.Kept.{has_piece}
+use Rattle.zs_ids.specs.Piece.{piece_cmp}
 use Rattle.zs_scan.specs.declared.batch.Batch.{Batch}
 use Rattle.zs_scan.specs.View.{Mark, ScanView, is_same, mark_of, is_waiting, flies_in, is_flying, pieces_in, has_item}
 use Rattle.std.proofs.Math.Bool.{or-true, and-false}

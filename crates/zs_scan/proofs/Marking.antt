@@ -6,7 +6,8 @@ use Rattle.std.specs.Map.{lookup}
 use Rattle.std.specs.BTreeMap.{is_at}
 use Rattle.zs_ids.specs.declared.block.Piece.{Piece}
 use Rattle.zs_ids.specs.declared.block.Item.{Item}
-use Rattle.zs_queue.specs.Waiting.{piece_cmp, waits, without}
+use Rattle.zs_ids.specs.Piece.{piece_cmp}
+use Rattle.zs_queue.specs.Waiting.{waits, without}
 use Rattle.zs_scan.specs.View.{Mark, is_same, mark_of, pieces_in, has_item, MarksAs}
 use Rattle.zs_scan.proofs.Pieces.{same_is, same_itself}
 

@@ -11,7 +11,8 @@ use Rattle.zs_phys.specs.declared.phys.Status.TheVariants.{Scanning}
 use Rattle.std.specs.Prelude.{take, min}
 use Rattle.std.proofs.lemmas.List.{length-map, length-take}
 use Rattle.std.proofs.lemmas.List.Sums.{length-filter, count_by-le-length}
-use Rattle.zs_queue.specs.Waiting.{piece_cmp, waits, without, lowest, is_of}
+use Rattle.zs_ids.specs.Piece.{piece_cmp}
+use Rattle.zs_queue.specs.Waiting.{waits, without, lowest, is_of}
 use Rattle.std.specs.Map.{keys_of, lookup}
 use Rattle.std.specs.BTreeMap.{is_at}
 use Rattle.zs_scan.specs.declared.batch.Batch.{Batch}

@@ -7,7 +7,7 @@ use Rattle.std.specs.Ordering.{is_eq, ordering_reverse}
 use Rattle.std.specs.declared.cmp.Ordering.{Ordering}
 use Rattle.std.specs.declared.cmp.Ordering.TheVariants.{Less, Equal, Greater}
 use Rattle.zs_ids.specs.declared.block.Piece.{Piece}
-use Rattle.zs_queue.specs.Waiting.{piece_cmp}
+use Rattle.zs_ids.specs.Piece.{piece_cmp}
 use Rattle.zs_queue.specs.Order.{equal_pieces, tests_equal, piece_total}
 use Rattle.zs_scan.specs.View.{is_same}
 

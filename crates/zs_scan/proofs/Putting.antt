@@ -20,7 +20,8 @@ use Rattle.zs_phys.specs.declared.step.Step.TheVariants as steps
 use Rattle.zs_phys.specs.Scope.{in_scope}
 use Rattle.zs_phys.specs.Turn.{Comes, advanced, skipped}
 use Rattle.zs_phys.specs.Turn.Comes.{meets}
-use Rattle.zs_queue.specs.Waiting.{piece_cmp, waits, with_item, without}
+use Rattle.zs_ids.specs.Piece.{piece_cmp}
+use Rattle.zs_queue.specs.Waiting.{waits, with_item, without}
 use Rattle.zs_queue.specs.Order.{equal_pieces}
 use Rattle.zs_scan.specs.View.{Mark, ScanView, is_same, mark_of, is_waiting, is_flying, is_done, MarksAs}
 use Rattle.zs_scan.specs.Kept.{IsOrderly}

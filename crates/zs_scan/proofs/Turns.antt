@@ -22,7 +22,8 @@ use Rattle.zs_phys.specs.Turn.Comes.{meets}
 use Rattle.zs_cover.specs.Laws.{IsCovered}
 use Rattle.zs_cover.proofs.Keys.{found_from}
 use Rattle.zs_cover.proofs.Turns.{turn_keeps}
-use Rattle.zs_queue.specs.Waiting.{piece_cmp, with_item}
+use Rattle.zs_ids.specs.Piece.{piece_cmp}
+use Rattle.zs_queue.specs.Waiting.{with_item}
 use Rattle.zs_walk.specs.Walking.{MayWalk}
 use Rattle.zs_walk.proofs.Visits.{met}
 use Rattle.zs_scan.specs.declared.batch.Turn.{Turn}

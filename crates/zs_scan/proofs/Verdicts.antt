@@ -6,7 +6,8 @@ use Rattle.std.proofs.Math.Nat.{le_refl}
 use Rattle.std.proofs.lemmas.List.Folds.{list_any-append}
 use Rattle.zs_ids.specs.declared.block.Piece.{Piece}
 use Rattle.zs_ledger.specs.declared.entry.Entry.{Entry}
-use Rattle.zs_ledger.specs.Kept.{has_piece, is_piece}
+use Rattle.zs_ids.specs.Piece.{is_piece}
+use Rattle.zs_ledger.specs.Kept.{has_piece}
 use Rattle.zs_queue.specs.Lists.{has-filter}
 use Rattle.zs_cover.proofs.Rests.{later_keeps as later_covered}
 use Rattle.zs_scan.specs.declared.batch.Batch.{Batch}

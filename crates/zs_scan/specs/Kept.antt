@@ -10,7 +10,8 @@ use Rattle.zs_ledger.specs.Entry.{HaveCopies}
 use Rattle.zs_ledger.specs.Kept.{has_piece}
 use Rattle.zs_phys.specs.declared.phys.Status.TheVariants.{Scanning}
 use Rattle.zs_phys.specs.Scope.{in_scope}
-use Rattle.zs_queue.specs.Waiting.{piece_cmp, waits}
+use Rattle.zs_ids.specs.Piece.{piece_cmp}
+use Rattle.zs_queue.specs.Waiting.{waits}
 use Rattle.zs_scan.specs.declared.batch.Batch.{Batch}
 use Rattle.zs_scan.specs.View.{Mark, ScanView, mark_of, is_waiting, is_flying, pieces_in, has_item}
 

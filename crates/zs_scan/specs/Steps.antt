@@ -15,7 +15,8 @@ use Rattle.zs_phys.specs.declared.phys.At.TheVariants.{Nowhere}
 use Rattle.zs_phys.specs.declared.phys.Status.TheVariants.{Scanning, Finished}
 use Rattle.std.specs.List.{list_any}
 use Rattle.std.specs.List.Sorted.{IsStrictlySortedBy}
-use Rattle.zs_queue.specs.Waiting.{without, piece_cmp}
+use Rattle.zs_ids.specs.Piece.{piece_cmp}
+use Rattle.zs_queue.specs.Waiting.{without}
 use Rattle.zs_scan.specs.declared.batch.Batch.{Batch}
 use Rattle.zs_scan.specs.View.{Mark, ScanView, is_same, mark_of, flies_in, MarksAs, pieces_in, has_item}
 

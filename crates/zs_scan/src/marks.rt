@@ -20,7 +20,7 @@ impl Model for Marks {
     ghost use Rattle.std.specs.Map.{keys_of};
     ghost use Rattle.std.specs.List.Sorted.{IsStrictlySortedBy};
     ghost use Rattle.zs_ids.specs.declared.block.Piece.{Piece};
-    ghost use Rattle.zs_queue.specs.Waiting.{piece_cmp};
+    ghost use Rattle.zs_ids.specs.Piece.{piece_cmp};
     ghost use Rattle.zs_scan.specs.View.{Mark, is_flying};
 
     ghost Value = { List (Piece × Mark) };

@@ -4,7 +4,7 @@ ghost use Rattle.std.specs.Prelude.{◌≡◌, ◌≤◌, ◌+◌, ◌++◌, ◌
 ghost use Rattle.std.specs.VecDeque.{deque_len, deque_capacity};
 ghost use Rattle.std.specs.List.Sorted.{IsStrictlySortedBy};
 ghost use Rattle.zs_ids.specs.declared.block.Piece.{Piece};
-ghost use Rattle.zs_queue.specs.Waiting.{piece_cmp};
+ghost use Rattle.zs_ids.specs.Piece.{piece_cmp};
 ghost use Rattle.zs_scan.specs.View.{mark_of, is_flying, pieces_in, has_item};
 
 use crate::batch::Batch;

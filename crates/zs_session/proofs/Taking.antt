@@ -7,7 +7,8 @@ use Rattle.zs_ids.specs.declared.block.Piece.{Piece}
 use Rattle.zs_ids.specs.declared.block.Item.{Item}
 use Rattle.zs_ids.specs.Graph.{Has}
 use Rattle.zs_queue.specs.Lists.{has-filter}
-use Rattle.zs_queue.specs.Waiting.{is_of, lowest, without, piece_cmp}
+use Rattle.zs_ids.specs.Piece.{piece_cmp}
+use Rattle.zs_queue.specs.Waiting.{is_of, lowest, without}
 use Rattle.zs_ledger.specs.declared.entry.Entry.{Entry}
 use Rattle.zs_scan.specs.declared.batch.Batch.{Batch}
 use Rattle.zs_scan.specs.Kept.{IsOrderly}

@@ -4,7 +4,7 @@ ghost use Rattle.std.specs.Prelude.{◌≡◌, ◌≤◌, ◌<◌, ◌+◌, ◌+
 ghost use Rattle.zs_ids.specs.Graph.{Has};
 ghost use Rattle.zs_machine.specs.declared.event.Event.{Event};
 ghost use Rattle.zs_scan.specs.Flight.{first_of};
-ghost use Rattle.zs_ledger.specs.Kept.{is_piece};
+ghost use Rattle.zs_ids.specs.Piece.{is_piece};
 ghost use Rattle.zs_machine.specs.History.{text_of};
 ghost use Rattle.zs_machine.specs.Told.{letter_of, landed_of, shown_by};
 ghost use Rattle.zs_session.specs.Mirror.{HaveCause};

@@ -1,6 +1,6 @@
 use Rattle.std.proofs.Common.{◌≡◌, drop}
 use Rattle.std.specs.Prelude.{find}
-use Rattle.zs_ledger.specs.Kept.{is_piece}
+use Rattle.zs_ids.specs.Piece.{is_piece}
 use Rattle.zs_session.proofs.landing.letters_in.Given as goal
 
 abbrev pub invariant-loop-entry : goal.invariant-loop-entry

@@ -3,7 +3,8 @@ use Rattle.std.specs.List.Sorted.{IsPermutation, IsStableByKey}
 use Rattle.std.proofs.lemmas.List.Sorted.{answers_always}
 use Rattle.zs_ledger.specs.declared.entry.Entry.{Entry}
 use Rattle.zs_ledger.specs.Entry.{has_error}
-use Rattle.zs_ledger.specs.Kept.{Kept, piece_cmp}
+use Rattle.zs_ids.specs.Piece.{piece_cmp}
+use Rattle.zs_ledger.specs.Kept.{Kept}
 use Rattle.zs_ledger.proofs.ledger.Ledger.errors.Goals as goal
 
 pub returns-clause-all : goal.returns-clause-all

@@ -3,7 +3,8 @@ use Rattle.std.specs.Prelude.{Some, None}
 use Rattle.std.specs.List.Sorted.{IsStrictlySortedBy}
 use Rattle.zs_ids.specs.declared.block.Piece.{Piece}
 use Rattle.zs_ids.specs.declared.block.Item.{Item}
-use Rattle.zs_queue.specs.Waiting.{piece_cmp, lowest}
+use Rattle.zs_ids.specs.Piece.{piece_cmp}
+use Rattle.zs_queue.specs.Waiting.{lowest}
 use Rattle.zs_queue.specs.Lowest.{lowest_is_batch}
 use Rattle.zs_scan.specs.View.{mark_of, has_item, pieces_in}
 use Rattle.zs_queue.specs.Waiting.{without}
