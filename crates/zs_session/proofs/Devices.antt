@@ -6,7 +6,7 @@ use Rattle.std.proofs.lemmas.List.Edits.{map_over_more}
 use Rattle.std.proofs.Math.Seq.{map-set_same}
 use Rattle.zs_io.specs.Faults.{Rose, HasCause}
 use Rattle.zs_io.specs.declared.fault.BayFault.{BayFault}
-use Rattle.zs_session.specs.Mirror.{SomeRose, HaveCause}
+use Rattle.zs_session.specs.Mirror.{SomeRose, HaveCause, Calls}
 
 -- the call was done: the counts are as they were
 pub done : {D T U : Type 0} (f : D → ℕ) (xs : List D) (i : ℕ) (y d : D) (x : T) (z : U) → HasCause {T = T} (f (get_or xs i d)) (f y) (Ok x) → HaveCause {T = U} (map f xs) (map f (set xs i y)) (Ok z)
@@ -36,6 +36,18 @@ refused f xs i y d e lt cause =
 pub counted : {D T : Type 0} (f : D → ℕ) (xs : List D) (i : ℕ) (y d : D) (r : Result T BayFault) → i < length xs → HasCause {T = T} (f (get_or xs i d)) (f y) r → HaveCause {T = T} (map f xs) (map f (set xs i y)) r
 counted f xs i y d (Ok x) lt cause = done f xs i y d x x cause
 counted f xs i y d (Err e) lt cause = refused f xs i y d e lt cause
+
+-- what the call leaves of all of them
+pub called : {D T : Type 0} (size faults : D → ℕ) (xs : List D) (i : ℕ) (y d : D) (r : Result T BayFault) → i < length xs → size y ≡ size (get_or xs i d) → HasCause {T = T} (faults (get_or xs i d)) (faults y) r
+    → Calls (map size xs) (map size (set xs i y)) (map faults xs) (map faults (set xs i y)) r
+called size faults xs i y d r lt same cause = record { sizes = map-set_same size xs i y d same; cause = counted faults xs i y d r lt cause }
+
+-- calls that were done, one after another
+pub calls_on : {U : Type 0} {a b c p q r : List ℕ} {x : U} → Calls {T = Unit {0}} a b p q (Ok tt) → Calls b c q r (Ok x) → Calls {T = Unit {0}} a c p r (Ok tt)
+calls_on first next = record {
+  sizes = next.sizes ∙ first.sizes;
+  cause = record { ok = next.cause.ok ∙ first.cause.ok; failed = λ h. cc; memory = λ h. cc };
+}
 
 -- the device was changed, where the call was done
 pub changed : {D B T : Type 0} (f : D → B) (change : B → B) (xs : List D) (i : ℕ) (y d : D) (b : B) (r : Result T BayFault) → i < length xs → OnOk r (f y ≡ change (f (get_or xs i d)))

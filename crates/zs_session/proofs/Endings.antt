@@ -11,9 +11,9 @@ use Rattle.zs_script.specs.Script.{parsed_script}
 use Rattle.zs_session.specs.declared.session.Ended.{Ended}
 use Rattle.zs_session.specs.Session.{AreFitFor, AreUnfitFor, AreFirst, commands_in}
 use Rattle.zs_session.specs.Puts.{Puts, PutsPart, PutsRefusal, fault_line, refused_line}
-use Rattle.zs_session.specs.Ending.{IsSessionStatus, KeepsImages, history_in, devices_in}
+use Rattle.zs_session.specs.Ending.{IsSessionStatus, KeepsImages, PlaysOn, history_in, devices_in}
 use Rattle.zs_session.specs.Step.{read_of, lines_in}
-use Rattle.zs_session.specs.Runs.{EndsInFault, IsUntouched, EndsRefused, AreImages, HandsBack, PlaysOn, RunsLines}
+use Rattle.zs_session.specs.Runs.{EndsInFault, IsUntouched, EndsRefused, AreImages, HandsBack, RunsLines}
 use Rattle.zs_session.proofs.Fetching.{are_named, are_images}
 use Rattle.zs_session.proofs.Refusals.{refusal_none}
 use Rattle.zs_session.proofs.Scripts.{faulty, sound, lines_are, fault_is, fetched}

@@ -1,7 +1,10 @@
 -- How a history goes on, alone and with the devices.
 use Rattle.std.proofs.Common.{◌≡◌, ℕ, List, [], ◌∷◌, ◌++◌, subst, ap, refl, sym, ◌∙◌, append_assoc, append-nil}
 use Rattle.std.proofs.lemmas.Grind.{flat_map-append}
-use Rattle.std.specs.Prelude.{Result, Ok, Err, OnErr}
+use Rattle.std.specs.Prelude.{Result, Ok, Err, OnErr, IsErrOf}
+use Rattle.std.proofs.lemmas.Result.{on_err_weaker}
+use Rattle.zs_io.specs.declared.fault.BayFault.{BayFault}
+use Rattle.zs_io.specs.declared.fault.BayFault.TheVariants.{Failed, Memory}
 use Rattle.zs_script.specs.declared.command.Command.{Command}
 use Rattle.zs_script.specs.declared.reply.Reply.{Reply}
 use Rattle.zs_script.specs.declared.reply.Reply.TheVariants as replies
@@ -13,7 +16,7 @@ use Rattle.zs_core.specs.View.{PoolView}
 use Rattle.zs_machine.specs.History.{AddsEvent}
 use Rattle.zs_machine.specs.Commands.{command_in, commands_of}
 use Rattle.zs_machine.specs.History.{text_of}
-use Rattle.zs_session.specs.Session.{GoesOn, GoesPart}
+use Rattle.zs_session.specs.Session.{GoesOn, GoesPart, Passes, Stops, StopsLine, WantsMemory}
 use Rattle.zs_session.specs.Plays.{AreDevicesOf, Contents, PlaysOne, Plays, Went, WentAlone}
 
 -- nothing came since
@@ -134,3 +137,61 @@ went_after_alone old mid new before after cs first second = went_after old mid n
 pub handed : {T E P : Type 0} (r : Result T E) → P → OnErr r P
 handed (Ok x) p = tt
 handed (Err e) p = p
+
+-- it went on by an event without a command
+goes_adds : (by : ℕ) (s : Step) (old new : List Event) → command_in s ≡ [] → AddsEvent by s replies.Nothing old new → GoesOn old new []
+goes_adds by s old new none event = subst (λ (cs : List Command). GoesOn old new cs) none (adds by s replies.Nothing old new event)
+
+-- one event that has no reply and no command passes
+pub passes_adds : {T E : Type 0} (by : ℕ) (s : Step) (old new : List Event) (r : Result T E) → command_in s ≡ [] → AddsEvent by s replies.Nothing old new → Passes old new r
+passes_adds by s old new r none event = record {
+  silent = silent_adds by s old new event;
+  went_on = handed r (goes_adds by s old new none event);
+}
+
+-- what passes leaves another pool that is the same
+pub passes_same : {T E : Type 0} (old : List Event) (mid new : PoolView) (r : Result T E) → new ≡ mid → Passes old mid.history r → Passes old new.history r
+passes_same old mid new r same passes = subst (λ (p : PoolView). Passes old p.history r) (sym same) passes
+
+-- a part of a line that stops, behind others that passed
+pub passes_after : {T U E F : Type 0} {e : F} (old mid : PoolView) (new : List Event) (before between : Contents) (r : Result T E) → Went old mid before between [] → text_of mid.history ≡ text_of old.history → Passes {T = U} mid.history new (Err e) → Passes old.history new r
+passes_after old mid new before between r went quiet passes = record {
+  silent = passes.silent ∙ quiet;
+  went_on = handed r (goes_after_went old mid new before between [] went passes.went_on);
+}
+
+-- so does the last part of it
+pub stops_after : {T E : Type 0} (old mid : PoolView) (new : List Event) (before between : Contents) (r : Result T E) → Went old mid before between [] → text_of mid.history ≡ text_of old.history → Stops mid.history new r → Stops old.history new r
+stops_after old mid new before between r went quiet stops = record {
+  silent = on_err_weaker r (λ (is : text_of new ≡ text_of mid.history). is ∙ quiet) stops.silent;
+  went_on = on_err_weaker r (goes_after_went old mid new before between [] went) stops.went_on;
+}
+
+-- what passes stops as such
+pub stops_so : {T E : Type 0} (old new : List Event) (r : Result T E) → Passes old new r → Stops old new r
+stops_so old new r passes = record { silent = handed r passes.silent; went_on = passes.went_on }
+
+-- a line that ends in a call without devices, behind parts that passed
+pub line_after : {T : Type 0} (old mid : PoolView) (new : List Event) (before between : Contents) (r : Result T BayFault) → Went old mid before between [] → WantsMemory mid.history new r → StopsLine old.history new r
+line_after old mid new before between r went wants = record {
+  silent = no_device r wants.memory;
+  went_on = on_err_weaker r (goes_after_went old mid new before between [] went) wants.went_on;
+}
+  where
+    no_device : {U : Type 0} (r : Result U BayFault) → OnErr r (r ≡ Err Memory) → IsErrOf r Failed → text_of new ≡ text_of old.history
+    no_device (Ok x) memory failed = cc
+    no_device (Err e) memory failed = cc
+
+-- so does what passes behind such an event
+pub passes_twice : {T E : Type 0} (by : ℕ) (s : Step) (old mid new : List Event) (r : Result T E) → command_in s ≡ [] → AddsEvent by s replies.Nothing old mid → Passes mid new r → Passes old new r
+passes_twice by s old mid new r none event passes = record {
+  silent = passes.silent ∙ silent_adds by s old mid event;
+  went_on = on_err_weaker r (twice old mid new [] [] (goes_adds by s old mid none event)) passes.went_on;
+}
+
+-- or stops behind it
+pub stops_behind : {T E : Type 0} (by : ℕ) (s : Step) (old mid new : List Event) (r : Result T E) → command_in s ≡ [] → AddsEvent by s replies.Nothing old mid → Stops mid new r → Stops old new r
+stops_behind by s old mid new r none event stops = record {
+  silent = on_err_weaker r (λ (is : text_of new ≡ text_of mid). is ∙ silent_adds by s old mid event) stops.silent;
+  went_on = on_err_weaker r (twice old mid new [] [] (goes_adds by s old mid none event)) stops.went_on;
+}

@@ -1,11 +1,9 @@
 -- A pool that was made, and what its whole history did to the devices.
-use Rattle.std.proofs.Common.{◌≡◌, ℕ, ◌/◌, ◌<◌, List, [], ◌∷◌, ◌++◌, Option, Some, None, ap, length, map, refl, slice_index, subst, sym, ◌∙◌}
+use Rattle.std.proofs.Common.{◌≡◌, ℕ, ◌/◌, ◌<◌, List, [], Option, Some, None, ap, length, map, refl, slice_index, subst, sym}
 use Rattle.std.specs.Prelude.{IfSome}
-use Rattle.std.proofs.lemmas.List.{length-map}
 use Rattle.zs_script.specs.declared.command.Command.{Command}
 use Rattle.zs_script.specs.declared.reply.Reply.{Reply}
 use Rattle.zs_machine.specs.declared.event.Event.{Event}
-use Rattle.zs_machine.specs.declared.event.Stage.TheVariants.{Writing}
 use Rattle.zs_machine.specs.declared.event.Step.TheVariants as steps
 use Rattle.zs_machine.specs.declared.shape.Shape.{Shape}
 use Rattle.zs_machine.specs.Steps.{blank_state}
@@ -13,7 +11,7 @@ use Rattle.zs_machine.specs.History.{AddsEvent}
 use Rattle.zs_core.specs.View.{PoolView}
 use Rattle.zs_session.specs.declared.session.Session.{Session}
 use Rattle.zs_session.specs.Plays.{AreDevicesOf, Contents, IsMade, Plays, Went}
-use Rattle.zs_session.specs.Runs.{PlaysOn}
+use Rattle.zs_session.specs.Ending.{PlaysOn}
 use Rattle.zs_session.proofs.Histories.{plays_twice}
 use Rattle.zs_session.proofs.LineSteps.{closes}
 

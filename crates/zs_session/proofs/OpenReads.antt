@@ -1,6 +1,7 @@
 -- A read that was begun ends by what was read.
 use Rattle.std.proofs.Common.{◌≡◌, ℕ, List, [], ◌∷◌, ◌++◌, refl, sym, ◌∙◌, ap, subst, inl, inr, ◌⊎◌}
-use Rattle.std.specs.Prelude.{Option, Some, None, IfSome, Result, OnOk}
+use Rattle.std.specs.Prelude.{Option, Some, None, IfSome, Result, Ok, Err, OnOk, OnErr}
+use Rattle.zs_io.specs.declared.fault.BayFault.{BayFault}
 use Rattle.zs_ids.specs.Graph.{Has}
 use Rattle.zs_script.specs.declared.command.Command.{Command}
 use Rattle.zs_script.specs.declared.reply.Reply.{Reply}
@@ -11,11 +12,11 @@ use Rattle.zs_machine.specs.declared.event.Step.TheVariants as steps
 use Rattle.zs_machine.specs.declared.event.OpenRead.{OpenRead}
 use Rattle.zs_core.specs.Reading.{EndsIfRead, read_reply}
 use Rattle.zs_core.specs.View.{CoreView, PoolView, with_read}
-use Rattle.zs_machine.specs.History.{AddsEvent}
+use Rattle.zs_machine.specs.History.{AddsEvent, text_of}
 use Rattle.zs_session.specs.OpenReads.{AwaitsRead, EndsOpenRead, WasReadFrom}
 use Rattle.zs_session.specs.Plays.{Contents, Went, WentAlone, IsReadOf}
-use Rattle.zs_session.specs.Session.{IsReady, GoesPart}
-use Rattle.zs_session.proofs.Histories.{stays, adds, part_none, part_one, went_one, went_adds, went_twice}
+use Rattle.zs_session.specs.Session.{IsReady, GoesPart, StopsIn}
+use Rattle.zs_session.proofs.Histories.{stays, adds, handed, silent_adds, part_none, part_one, went_one, went_adds, went_twice}
 use Rattle.zs_session.proofs.LineSteps.{ready_after}
 use Rattle.zs_session.proofs.Outcomes.{where_ok}
 
@@ -90,3 +91,15 @@ part_begun by c plan old mid new event same =
 -- no part of it where nothing happened
 pub part_same : (c : Command) (old new : PoolView) → new ≡ old → GoesPart old.history new.history (c ∷ [])
 part_same c old new same = subst (λ (p : PoolView). GoesPart old.history p.history (c ∷ [])) (sym same) (part_none old.history old.history (c ∷ []) (stays old.history))
+
+-- a read that was begun and stops has no reply, and the command
+pub read_stops : {T : Type 0} (by : ℕ) (c : Command) (plan : ReadPlan) (old mid new : PoolView) (r : Result T BayFault) → AddsEvent by (steps.ReadBegin c (Some plan)) replies.Nothing old.history mid.history → new ≡ mid → StopsIn old.history new.history (c ∷ []) r
+read_stops by c plan old mid new r event same = record {
+  silent = λ failed. ap (λ (p : PoolView). text_of p.history) same ∙ silent_adds by (steps.ReadBegin c (Some plan)) old.history mid.history event;
+  went_on = handed r (part_begun by c plan old mid new event same);
+}
+
+-- also where its end was refused
+pub read_ends : {T : Type 0} (by : ℕ) (c : Command) (plan : ReadPlan) (old mid new : PoolView) (r : Result T BayFault) → AddsEvent by (steps.ReadBegin c (Some plan)) replies.Nothing old.history mid.history → OnErr r (new ≡ mid) → StopsIn old.history new.history (c ∷ []) r
+read_ends by c plan old mid new (Ok x) event same = record { silent = λ failed. cc; went_on = tt }
+read_ends by c plan old mid new (Err e) event same = read_stops by c plan old mid new (Err e) event same

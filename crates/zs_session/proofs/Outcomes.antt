@@ -1,5 +1,5 @@
--- What is so where a call was done, and where it was refused.
-use Rattle.std.specs.Prelude.{Result, Ok, Err, OnOk, OnErr}
+-- What is so where a call was done.
+use Rattle.std.specs.Prelude.{Result, Ok, Err, OnOk}
 
 -- what is so in any case is so there
 pub in_any_case : {T E : Type 0} {P : Type 0} (r : Result T E) → P → OnOk r P
@@ -10,13 +10,3 @@ in_any_case (Err e) p = tt
 pub where_ok : {T E : Type 0} {P Q : Type 0} (r : Result T E) → (P → Q) → OnOk r P → OnOk r Q
 where_ok (Ok x) f p = f p
 where_ok (Err e) f p = tt
-
--- and where it was refused
-pub where_err : {T E : Type 0} {P Q : Type 0} (r : Result T E) → (P → Q) → OnErr r P → OnErr r Q
-where_err (Ok x) f p = tt
-where_err (Err e) f p = f p
-
--- what is so in any case is so there too
-pub if_refused : {T E : Type 0} {P : Type 0} (r : Result T E) → P → OnErr r P
-if_refused (Ok x) p = tt
-if_refused (Err e) p = p

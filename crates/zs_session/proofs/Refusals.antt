@@ -1,11 +1,16 @@
 -- Why images are refused.
-use Rattle.std.proofs.Common.{◌≡◌, ℕ, List, length, Option, Err, refl, arith}
+use Rattle.std.proofs.Common.{◌≡◌, ◌≢◌, ◌⊎◌, inl, inr, ap, ℕ, List, length, Option, Err, refl, arith}
 use Rattle.std.specs.Prelude.{IsErrOf}
 use Rattle.zs_script.specs.declared.refusal.Refusal.{Refusal}
 use Rattle.zs_script.specs.declared.refusal.Refusal.TheVariants.{Shape, NotBlank}
 use Rattle.zs_script.specs.declared.reply.Reply.TheVariants.{Refused}
 use Rattle.zs_script.specs.Texts.{reply_text, reply_lines}
+use Rattle.zs_script.specs.declared.command.Line.{Line}
+use Rattle.zs_session.specs.declared.end.End.{End}
+use Rattle.zs_session.specs.declared.end.End.TheVariants as ends
+use Rattle.zs_session.specs.declared.session.Ended.{Ended}
 use Rattle.zs_session.specs.Mirror.{SomeRose}
+use Rattle.zs_session.specs.Ending.{RefusesImages, code}
 use Rattle.zs_session.specs.Puts.{PutsRefusal, refused_line}
 use Rattle.zs_session.proofs.Texts.{part_none}
 use Rattle.zs_session.specs.Images.{AreBlank, IsSizeFault, IsImageFault, AreFresh, HasFailed}
@@ -32,3 +37,16 @@ refused_is refusal = refl
 -- nothing was put, which is a beginning of any line
 pub refusal_none : (told : Option (List ℕ)) → PutsRefusal told told
 refusal_none told = record { fault = NotBlank; part = part_none told (refused_line NotBlank) }
+
+-- a session for which memory was wanting refuses no images
+pub refuses_nothing : {D : Type 0} (lines : List Line) (size : D → ℕ) (told : D → Option (List ℕ)) (faults : D → ℕ) (before : Option (List ℕ)) (e : Ended D) → e.status ≡ 7 → RefusesImages lines size told faults before before e
+refuses_nothing lines size told faults before e seven = record {
+  none = λ three. absurd (omega (arith, seven, three));
+  unfit = λ three. absurd (omega (arith, seven, three));
+  unread = λ four none. absurd (omega (arith, seven, four));
+  cut = λ none. refusal_none before;
+}
+
+-- images are not refused with the status that memory was wanting
+pub refuses_with : (e : End) → (e ≡ ends.Unfit) ⊎ (e ≡ ends.Device) → code e ≢ 7
+refuses_with e is seven = elim is [ inl unfit ↦ omega (arith, ap code unfit, seven) | inr device ↦ omega (arith, ap code device, seven) ]

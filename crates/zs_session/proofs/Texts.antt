@@ -1,5 +1,5 @@
 -- What a sink tells after several puts.
-use Rattle.std.proofs.Common.{◌≡◌, ℕ, ◌+◌, ◌<◌, List, [], ◌∷◌, ◌++◌, length, take, drop, get_or, min, arith, Option, Some, None, option_map, subst, ap, refl, sym, ◌∙◌, append_assoc}
+use Rattle.std.proofs.Common.{◌≡◌, ◌≢◌, ◌⊎◌, ℕ, ◌+◌, ◌<◌, List, [], ◌∷◌, ◌++◌, length, take, drop, get_or, min, arith, Option, Some, None, option_map, subst, ap, refl, sym, ◌∙◌, append_assoc}
 use Rattle.std.proofs.lemmas.List.{append-nil, take_more, drop_more, take_all, take-append-le, take-append-drop, take_min}
 use Rattle.std.proofs.Math.Seq.{take-append-add, drop-append_seam}
 use Rattle.std.proofs.lemmas.Grind.{flat_map-append}
@@ -7,7 +7,7 @@ use Rattle.zs_script.specs.Texts.{reply_text}
 use Rattle.zs_script.specs.declared.command.Command.{Command}
 use Rattle.zs_machine.specs.declared.event.Event.{Event}
 use Rattle.zs_machine.specs.History.{text_of}
-use Rattle.zs_session.specs.Puts.{Puts, PutsPart}
+use Rattle.zs_session.specs.Puts.{Puts, PutsPart, PutsLast}
 use Rattle.zs_session.specs.Session.{GoesOn}
 
 -- nothing was put
@@ -94,3 +94,14 @@ part_rest start mid end old new rest cs goes is was part =
 -- the text of some events was put, which are these
 pub put_all : (start now : Option (List ℕ)) (es fs : List Event) → es ≡ fs → now ≡ option_map (λ b. b ++ text_of es) start → now ≡ option_map (λ b. b ++ text_of fs) start
 put_all start now es fs is was = was ∙ ap (λ (x : List Event). option_map (λ b. b ++ text_of x) start) is
+
+-- a line that is put, or for which the sink fails
+pub puts_last : (text : List ℕ) (n status : ℕ) (before now : Option (List ℕ)) → (status ≡ n) ⊎ (status ≡ 6) → n ≢ 7 → (status ≢ 6 → Puts text before now) → PutsPart text before now → PutsLast text status before now
+puts_last text n status before now ends other whole part = record {
+  whole = λ six seven. whole six;
+  part = part;
+  silent = λ seven. absurd (not_seven n status ends other seven);
+}
+  where
+    not_seven : (n status : ℕ) → (status ≡ n) ⊎ (status ≡ 6) → n ≢ 7 → status ≡ 7 → ⊥
+    not_seven n status ends other seven = grind arith

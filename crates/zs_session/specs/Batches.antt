@@ -1,7 +1,8 @@
 -- What the check of a batch makes of a pool, and what a scan keeps while it is brought to its end.
-use Rattle.std.specs.Prelude.{◌≡◌, ◌≤◌, ℕ, List, [], ◌∷◌, ◌++◌, length, Some}
+use Rattle.std.specs.Prelude.{◌≡◌, ◌≤◌, ◌<◌, ℕ, List, [], ◌∷◌, ◌++◌, length, Option, Some, None, IfSome, Result, Ok, IfOk}
 use Rattle.zs_ids.specs.declared.block.Piece.{Piece}
 use Rattle.zs_ids.specs.Graph.{Has}
+use Rattle.zs_io.specs.declared.fault.BayFault.{BayFault}
 use Rattle.zs_ledger.specs.declared.entry.Entry.{Entry}
 use Rattle.zs_queue.specs.Waiting.{lowest}
 use Rattle.zs_scan.specs.declared.batch.Batch.{Batch}
@@ -34,6 +35,12 @@ pub record LandsFirst (by : ℕ) (old : PoolView) (many : ℕ) (new : PoolView) 
   pub batch : Batch
   pub first : Some batch ≡ first_of old.core.scan.flight
   pub verdict : HadVerdict by old batch many new
+
+-- none was in flight, and nothing changed; or that batch had its verdict, and fewer are in flight
+pub record LandsNext (by : ℕ) (old new : PoolView) (result : Result (Option ℕ) BayFault) : Type 0 where
+  pub none : result ≡ Ok None → (old.core.scan.flight ≡ []) × (new ≡ old)
+  pub verdict : IfOk result (λ next. IfSome next (λ many. LandsFirst by old many new))
+  pub fewer : (many : ℕ) → result ≡ Ok (Some many) → length new.core.scan.flight < length old.core.scan.flight
 
 -- a `land` made so many entries so far, with these results, and what is left in flight was taken later than what had its verdict
 pub record HasLanded (p : PoolView) (made : ℕ) (shown : List LandedPiece) : Type 0 where

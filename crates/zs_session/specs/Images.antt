@@ -1,10 +1,12 @@
 -- The images of a pool: which can be made a new one, seen as the list of their sizes and the list of what each tells.
-use Rattle.std.specs.Prelude.{◌≡◌, ◌≢◌, ◌==◌, ℕ, ◌+◌, ◌*◌, ◌/◌, ◌++◌, ◌<◌, ◌≤◌, min, Bool, true, false, List, Option, option_map, length, take, slice_index, slice_range}
+use Rattle.std.specs.Prelude.{◌≡◌, ◌≢◌, ◌==◌, ℕ, ◌+◌, ◌*◌, ◌/◌, ◌++◌, ◌<◌, ◌≤◌, min, Bool, true, false, List, Option, option_map, length, take, slice_index, slice_range, Result, Err, IsErrOf}
 use Rattle.std.specs.List.{list_all}
 use Rattle.zs_io.specs.Told.{Told}
 use Rattle.zs_script.specs.declared.refusal.Refusal.{Refusal}
 use Rattle.zs_script.specs.declared.refusal.Refusal.TheVariants.{Shape, NotBlank, TooSmall, TooLarge}
-use Rattle.zs_session.specs.Mirror.{told_at}
+use Rattle.zs_session.specs.declared.images.ImageFault.{ImageFault}
+use Rattle.zs_session.specs.declared.images.ImageFault.TheVariants.{Unread}
+use Rattle.zs_session.specs.Mirror.{told_at, SomeRose}
 
 -- the bytes that a label could lie in: the first 2,048, or all where there are fewer
 abbrev pub head_of : ℕ → List ℕ → List ℕ
@@ -52,6 +54,20 @@ abbrev pub IsImageFault : ℕ → ℕ → List ℕ → List (Option (List ℕ)) 
 IsImageFault width blocks sizes told Shape = length sizes ≢ width
 IsImageFault width blocks sizes told NotBlank = (length sizes ≡ width) × SomeWritten sizes told
 IsImageFault width blocks sizes told fault = (length sizes ≡ width) × AreBlank sizes told × IsSizeFault blocks sizes fault
+
+-- as many sectors as images of these sizes, each the whole sectors of its image, of which none has too few and none too many
+pub record AreSectors (width blocks images : ℕ) (sizes sectors : List ℕ) : Type 0 where
+  pub count : length sectors ≡ width
+  pub devices : images ≡ width
+  pub are : (k : ℕ) → k < images → slice_index sectors k ≡ slice_index sizes k / 512
+  pub least : (k : ℕ) → k < length sectors → least_sectors blocks ≤ slice_index sectors k
+  pub most : (k : ℕ) → k < length sectors → slice_index sectors k ≤ most_sectors
+
+-- what the calls that test images leave: each device keeps its size, and the count of one rises just where its head can't be read
+pub record TestCalls {T : Type 0} (sizes_before sizes_now before now : List ℕ) (result : Result T ImageFault) : Type 0 where
+  pub sizes : sizes_now ≡ sizes_before
+  pub unread : IsErrOf result Unread → SomeRose before now
+  pub counts : result ≢ Err Unread → now ≡ before
 
 -- no call has failed yet on any device
 abbrev pub AreFresh : List ℕ → Type 0

@@ -10,3 +10,4 @@ pub mod Step
 pub mod Runs
 pub mod Verdicts
 pub mod Finish
+pub mod Turns

@@ -103,6 +103,11 @@ pub record HaveCause {T : Type 0} (before now : List ℕ) (result : Result T Bay
   pub failed : IsErrOf result Failed → SomeRose before now
   pub memory : IsErrOf result Memory → now ≡ before
 
+-- what calls on devices leave, one after another: each keeps its size, and the counts are as the result tells
+pub record Calls {T : Type 0} (sizes_before sizes_now before now : List ℕ) (result : Result T BayFault) : Type 0 where
+  pub sizes : sizes_now ≡ sizes_before
+  pub cause : HaveCause before now result
+
 -- the sector of the first of these places
 abbrev pub first_sector : List Place → ℕ
 first_sector [] = 0

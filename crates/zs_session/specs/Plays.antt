@@ -1,5 +1,5 @@
 -- What the events of a session did to its devices, where these tell what they hold.
-use Rattle.std.specs.Prelude.{◌≡◌, ◌<◌, ◌≤◌, ◌/◌, ℕ, false, List, [], ◌∷◌, ◌++◌, length, map, slice_index, Option, Some, None, option_map}
+use Rattle.std.specs.Prelude.{◌≡◌, ◌<◌, ◌/◌, ℕ, false, List, [], ◌∷◌, ◌++◌, length, map, slice_index, Option, option_map}
 use Rattle.zs_ids.specs.declared.block.Item.{Item}
 use Rattle.zs_ids.specs.declared.block.Piece.{Piece}
 use Rattle.zs_ids.specs.Graph.{Has}
@@ -102,3 +102,9 @@ pub record IsMade (p : PoolView) : Type 0 where
 pub record AreDevicesOf (s : Shape) (sizes : List ℕ) : Type 0 where
   pub count : length sizes ≡ s.devices
   pub sectors : (k : ℕ) → k < length sizes → slice_index s.sectors k ≡ slice_index sizes k / 512
+
+-- a pool was made by this command, and of devices of these sizes
+pub record MakesPool (command : Command) (sizes : List ℕ) (p : PoolView) : Type 0 where
+  pub commands : commands_of p.history ≡ command ∷ []
+  pub made : IsMade p
+  pub devices : AreDevicesOf p.core.shape sizes

@@ -1,5 +1,5 @@
 -- What was put into a sink, by what it told before and what it tells now; and the lines of a run that made no pool.
-use Rattle.std.specs.Prelude.{◌≡◌, ℕ, List, [], ◌++◌, take, codes, Option, option_map, Result, Ok, Err}
+use Rattle.std.specs.Prelude.{◌≡◌, ◌≢◌, ℕ, List, [], ◌++◌, take, codes, Option, option_map, Result, Ok, Err, OnOk, OnErr, IsErrOf}
 use Rattle.std.specs.Fmt.{decimal}
 use Rattle.zs_script.specs.Faults.{why_name}
 use Rattle.zs_script.specs.Refusals.{refusal_name}
@@ -8,6 +8,8 @@ use Rattle.zs_script.specs.declared.command.ScriptFault.{ScriptFault}
 use Rattle.zs_script.specs.declared.command.ScriptFault.TheVariants.{Bad, Memory}
 use Rattle.zs_script.specs.declared.command.Why.{Why}
 use Rattle.zs_script.specs.declared.refusal.Refusal.{Refusal}
+use Rattle.zs_session.specs.declared.stop.Stop.{Stop}
+use Rattle.zs_session.specs.declared.stop.Stop.TheVariants as stops
 
 -- the whole text was put
 abbrev pub Puts : List ℕ → Option (List ℕ) → Option (List ℕ) → Type 0
@@ -25,6 +27,24 @@ PutsOn old new before now = (start : Option (List ℕ)) → Puts old start befor
 -- or a beginning of it
 abbrev pub PutsPartOn : List ℕ → List ℕ → Option (List ℕ) → Option (List ℕ) → Type 0
 PutsPartOn old new before now = (start : Option (List ℕ)) → Puts old start before → PutsPart new start now
+
+-- the replies of a line are put on those before: all of them where it ended or a device stopped it, else a beginning
+pub record PutsLine {T : Type 0} (old new : List ℕ) (before now : Option (List ℕ)) (result : Result T Stop) : Type 0 where
+  pub told : OnOk result (PutsOn old new before now)
+  pub part : OnErr result (PutsPartOn old new before now)
+  pub whole : IsErrOf result stops.Device → PutsOn old new before now
+
+-- the replies of several lines are put: all of them where the lines ended or a device stopped them, else a beginning
+pub record PutsLines {T : Type 0} (text : List ℕ) (before now : Option (List ℕ)) (result : Result T Stop) : Type 0 where
+  pub told : OnOk result (Puts text before now)
+  pub part : PutsPart text before now
+  pub whole : IsErrOf result stops.Device → Puts text before now
+
+-- the one line of a run without a session is put: all of it, but with status 6 a beginning, and with 7 nothing
+pub record PutsLast (text : List ℕ) (status : ℕ) (before now : Option (List ℕ)) : Type 0 where
+  pub whole : status ≢ 6 → status ≢ 7 → Puts text before now
+  pub part : PutsPart text before now
+  pub silent : status ≡ 7 → now ≡ before
 
 -- the line that tells a fault of a script
 abbrev pub fault_line : ℕ → Why → List ℕ

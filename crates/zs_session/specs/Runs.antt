@@ -8,12 +8,10 @@ use Rattle.zs_io.specs.Told.{Told}
 use Rattle.zs_script.specs.declared.refusal.Refusal.{Refusal}
 use Rattle.zs_script.specs.declared.refusal.Refusal.TheVariants.{NotBlank}
 use Rattle.zs_session.specs.declared.session.Ended.{Ended}
-use Rattle.zs_session.specs.declared.session.Session.{Session}
-use Rattle.zs_session.specs.Plays.{Contents, Plays}
 use Rattle.zs_session.specs.Images.{AreFresh, HasFailed, AsksAll, AsksFirst}
 use Rattle.zs_session.specs.Session.{IsReady, AreFitFor, AreUnfitFor, AreFirst, commands_in}
 use Rattle.zs_session.specs.Puts.{Puts, PutsPart, PutsRefusal, refused_line}
-use Rattle.zs_session.specs.Ending.{history_in, devices_in}
+use Rattle.zs_session.specs.Ending.{PlaysOn, history_in, devices_in}
 use Rattle.zs_session.specs.Step.{has_fault, fault_text, lines_in}
 
 -- a run whose words are no form of the command line, and no other, comes to status 1 and puts the usage; or a part of it, where the sink failed
@@ -81,10 +79,6 @@ pub record AreImages {D : Type 0} (size : D → ℕ) (told : D → Option (List 
 -- these images fit the script's first line
 abbrev pub FitScript : {D : Type 0} → List ℕ → (D → ℕ) → (D → Option (List ℕ)) → List D → Type 0
 FitScript script size told images = AreFitFor (lines_in script) (map size images) (map told images)
-
--- the devices of a session hold what its history made of these contents
-abbrev pub PlaysOn : {D : Type 0} → (D → Option (List ℕ)) → Session D → Contents → Type 0
-PlaysOn told s before = Plays s.pool.core.shape.width s.pool.history before (map told s.devices.items)
 
 -- a session is made of images that fit, and they are its devices; with status 0 they hold what its history made of them; where they are
 -- refused, or the head of one can't be read, they are handed back as they were

@@ -1,11 +1,14 @@
 -- A session: when the pool is ready for a line, how its history goes on, and how a session ends.
-use Rattle.std.specs.Prelude.{◌≡◌, ℕ, false, List, [], ◌∷◌, ◌++◌, map, take, Result, Option, OnOk, IsErrOf}
+use Rattle.std.specs.Prelude.{◌≡◌, ℕ, false, List, [], ◌∷◌, ◌++◌, map, take, Result, Err, Option, OnOk, OnErr, IsErrOf}
 use Rattle.zs_machine.specs.declared.event.Event.{Event}
 use Rattle.zs_machine.specs.declared.event.Stage.TheVariants.{Between}
 use Rattle.zs_core.specs.View.{PoolView}
 use Rattle.zs_machine.specs.Told.{line_steps}
 use Rattle.zs_machine.specs.Commands.{commands_of}
+use Rattle.zs_machine.specs.History.{text_of}
 use Rattle.zs_io.specs.Faults.{Rose}
+use Rattle.zs_io.specs.declared.fault.BayFault.{BayFault}
+use Rattle.zs_io.specs.declared.fault.BayFault.TheVariants.{Failed, Memory}
 use Rattle.zs_script.specs.declared.command.Command.{Command}
 use Rattle.zs_script.specs.declared.command.Command.TheVariants as commands
 use Rattle.zs_script.specs.declared.command.Line.{Line}
@@ -39,6 +42,31 @@ pub record GoesPart (old new : List Event) (commands : List Command) : Type 0 wh
   pub many : ℕ
   pub part : GoesOn old new (take many commands)
 
+-- a part of a line puts no reply, whatever comes of it; where it stops, the history went on with no command
+pub record Passes {T E : Type 0} (old new : List Event) (result : Result T E) : Type 0 where
+  pub silent : text_of new ≡ text_of old
+  pub went_on : OnErr result (GoesOn old new [])
+
+-- the same where it stops; else it may have put replies
+pub record Stops {T E : Type 0} (old new : List Event) (result : Result T E) : Type 0 where
+  pub silent : OnErr result (text_of new ≡ text_of old)
+  pub went_on : OnErr result (GoesOn old new [])
+
+-- a line that stops has no command yet, and where a device stopped it no reply
+pub record StopsLine {T : Type 0} (old new : List Event) (result : Result T BayFault) : Type 0 where
+  pub silent : IsErrOf result Failed → text_of new ≡ text_of old
+  pub went_on : OnErr result (GoesOn old new [])
+
+-- a line that may stop behind its command has a beginning of these, and no reply where a device stopped it
+pub record StopsIn {T : Type 0} (old new : List Event) (commands : List Command) (result : Result T BayFault) : Type 0 where
+  pub silent : IsErrOf result Failed → text_of new ≡ text_of old
+  pub went_on : OnErr result (GoesPart old new commands)
+
+-- what calls no device stops only for want of memory, and then has no command
+pub record WantsMemory {T : Type 0} (old new : List Event) (result : Result T BayFault) : Type 0 where
+  pub memory : OnErr result (result ≡ Err Memory)
+  pub went_on : OnErr result (GoesOn old new [])
+
 -- the commands of lines, in order
 abbrev pub commands_in : List Line → List Command
 commands_in lines = map (λ line. line.command) lines
@@ -54,6 +82,11 @@ pub record HasReason {T : Type 0} (devices_before devices_now : List ℕ) (sink_
   pub device : IsErrOf result stops.Device → SomeRose devices_before devices_now × (sink_now ≡ sink_before)
   pub sink : IsErrOf result stops.Sink → Rose sink_before sink_now × (devices_now ≡ devices_before)
   pub memory : IsErrOf result stops.Memory → (devices_now ≡ devices_before) × (sink_now ≡ sink_before)
+
+-- what the calls of lines leave: each device keeps its size, and the counts are as the result tells
+pub record LineCalls {T : Type 0} (sizes_before sizes_now before now : List ℕ) (sink_before sink_now : ℕ) (result : Result T Stop) : Type 0 where
+  pub sizes : sizes_now ≡ sizes_before
+  pub cause : HasReason before now sink_before sink_now result
 
 -- the images fit a `pool` line
 abbrev pub IsFitFor : Command → List ℕ → List (Option (List ℕ)) → Type 0

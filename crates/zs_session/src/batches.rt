@@ -1,14 +1,13 @@
 //! Batches of pieces: taking one, checking it, and the lines that do so.
 
-ghost use Rattle.std.specs.Prelude.{◌≡◌, ◌≤◌, ◌<◌, ◌++◌, ◌∷◌, [], ℕ, List, true, length, map, OnOk, OnErr, IfOk, IsErrOf, Err, slice_index_or};
+ghost use Rattle.std.specs.Prelude.{◌≡◌, ◌≤◌, ◌<◌, ◌++◌, ◌∷◌, [], ℕ, List, true, length, map, OnOk, OnErr, IfOk, slice_index_or};
 ghost use Rattle.zs_ids.specs.Graph.{Has};
 ghost use Rattle.zs_ledger.specs.Entry.{AreCopies, HaveCopies};
 ghost use Rattle.zs_machine.specs.declared.event.Event.{Event};
-ghost use Rattle.zs_machine.specs.History.{text_of};
 ghost use Rattle.zs_core.specs.Line.{TookAll};
 ghost use Rattle.zs_machine.specs.Told.{letter_of, issued_of, TellsIssue, line_steps};
-ghost use Rattle.zs_session.specs.Mirror.{LiesOn, AllLieOn, IsChecked, IsEntryOf, HaveCause};
-ghost use Rattle.zs_session.specs.Session.{IsUp, IsReady, GoesOn};
+ghost use Rattle.zs_session.specs.Mirror.{LiesOn, AllLieOn, IsChecked, IsEntryOf, Calls};
+ghost use Rattle.zs_session.specs.Session.{IsUp, IsReady, Passes, StopsLine, WantsMemory};
 ghost use Rattle.zs_session.specs.Plays.{Went, WentAlone, AreChecks, AreDevicesOf};
 ghost use Rattle.zs_session.specs.Batches.{HadVerdict, TookLowest, entries_of};
 
@@ -39,8 +38,7 @@ fn check_items<D: Device>(
     requires buf { length buf.old ≡ 131072 }
     ensures checks { IfOk result (λ entries. AreChecks (length devices.old) items.now (map D.told devices.old) entries.items (map D.told devices.new)) }
     ensures copies { IfOk result (λ entries. HaveCopies (length devices.old) entries.items) }
-    ensures sizes { map D.size devices.new ≡ map D.size devices.old }
-    ensures cause { HaveCause (map D.faults devices.old) (map D.faults devices.new) result }
+    ensures calls { Calls (map D.size devices.old) (map D.size devices.new) (map D.faults devices.old) (map D.faults devices.new) result }
 {
     let mut entries = Vec::new(alloc);
     for item in items {
@@ -63,8 +61,7 @@ fn check_item<D: Device>(
     ensures checked { IfOk result (λ entry. IsChecked item.now (length devices.old) (map D.told devices.old) (map D.told devices.new) entry.copies) }
     ensures entry { IfOk result (λ entry. IsEntryOf item.now entry) }
     ensures copies { IfOk result (λ entry. AreCopies (length devices.old) entry.copies) }
-    ensures sizes { map D.size devices.new ≡ map D.size devices.old }
-    ensures cause { HaveCause (map D.faults devices.old) (map D.faults devices.new) result }
+    ensures calls { Calls (map D.size devices.old) (map D.size devices.new) (map D.faults devices.old) (map D.faults devices.new) result }
 {
     let sectors = item.sectors;
     let size = 512 * usize::from(sectors);
@@ -92,8 +89,7 @@ pub fn judge<D: Device>(
     ensures graph { OnOk result (pool.new.core.state.graph ≡ pool.old.core.state.graph) }
     ensures up { OnOk result (IsUp pool.new) }
     ensures err { OnErr result (pool.new ≡ pool.old) }
-    ensures sizes { map D.size devices.new ≡ map D.size devices.old }
-    ensures cause { HaveCause (map D.faults devices.old) (map D.faults devices.new) result }
+    ensures calls { Calls (map D.size devices.old) (map D.size devices.new) (map D.faults devices.old) (map D.faults devices.new) result }
 {
     pool.facts();
     let entries = check_items(alloc, devices, batch.items.as_slice(), good, buf)?;
@@ -111,8 +107,7 @@ pub fn hold(alloc: Global, pool: &mut Pool, by: u8, vdev: u8, pieces: u32) -> Re
     ensures ready { OnOk result (IsReady pool.new) }
     ensures goes_on { OnOk result (WentAlone pool.old pool.new (Command.Hold vdev pieces ∷ [])) }
     ensures batch { OnOk result (TookLowest pool.old pool.new vdev pieces) }
-    ensures memory { OnErr result (result ≡ Err BayFault.Memory) }
-    ensures went_on { OnErr result (GoesOn pool.old.history pool.new.history []) }
+    ensures stops { WantsMemory pool.old.history pool.new.history result }
 {
     pool.facts();
     let batch = pool.hold(by, vdev, pieces)?;
@@ -151,10 +146,8 @@ pub fn issue<D: Device>(
     ensures ready { OnOk result (IsReady pool.new) }
     ensures goes_on { OnOk result (Went pool.old pool.new (map D.told devices.old) (map D.told devices.new) (Command.Issue vdev pieces ∷ [])) }
     ensures batch { OnOk result (TookLowest pool.old pool.new vdev pieces) }
-    ensures silent { IsErrOf result BayFault.Failed → text_of pool.new.history ≡ text_of pool.old.history }
-    ensures went_on { OnErr result (GoesOn pool.old.history pool.new.history []) }
-    ensures sizes { map D.size devices.new ≡ map D.size devices.old }
-    ensures cause { HaveCause (map D.faults devices.old) (map D.faults devices.new) result }
+    ensures stops { StopsLine pool.old.history pool.new.history result }
+    ensures calls { Calls (map D.size devices.old) (map D.size devices.new) (map D.faults devices.old) (map D.faults devices.new) result }
 {
     let shown = check_some(alloc, pool, devices, by, vdev, pieces, good, buf)?;
     let reply = Reply::Issued {
@@ -185,10 +178,8 @@ fn check_some<D: Device>(
     ensures up { OnOk result (IsUp pool.new) }
     ensures goes_on { OnOk result (Went pool.old pool.new (map D.told devices.old) (map D.told devices.new) []) }
     ensures batch { OnOk result (TookLowest pool.old pool.new vdev pieces) }
-    ensures silent { IsErrOf result BayFault.Failed → text_of pool.new.history ≡ text_of pool.old.history }
-    ensures went_on { OnErr result (GoesOn pool.old.history pool.new.history []) }
-    ensures sizes { map D.size devices.new ≡ map D.size devices.old }
-    ensures cause { HaveCause (map D.faults devices.old) (map D.faults devices.new) result }
+    ensures passes { Passes pool.old.history pool.new.history result }
+    ensures calls { Calls (map D.size devices.old) (map D.size devices.new) (map D.faults devices.old) (map D.faults devices.new) result }
 {
     pool.facts();
     let batch = pool.hold(by, vdev, pieces)?;

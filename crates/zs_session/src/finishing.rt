@@ -1,6 +1,6 @@
 //! Committing what is staged, and the line that brings a scan to its end.
 
-ghost use Rattle.std.specs.Prelude.{◌≡◌, ◌<◌, ◌⊎◌, ◌∷◌, [], None, Bool, false, true, not, length, map, OnOk, OnErr, IfOk, IfSome, IsErrOf, Err};
+ghost use Rattle.std.specs.Prelude.{◌≡◌, ◌<◌, ◌⊎◌, ◌∷◌, [], None, Bool, false, true, not, length, map, OnOk, OnErr, IfOk, IfSome, Err};
 ghost use Rattle.zs_ids.specs.declared.limits.TheConstants.{TXG_END};
 ghost use Rattle.zs_phys.specs.Turn.{IsWalking};
 ghost use Rattle.zs_phys.specs.declared.phys.At.TheVariants.{Nowhere};
@@ -10,12 +10,12 @@ ghost use Rattle.zs_machine.specs.Steps.{LineStep};
 ghost use Rattle.zs_machine.specs.Told.{line_steps};
 ghost use Rattle.zs_machine.specs.Finishing.{is_through};
 ghost use Rattle.zs_machine.specs.Finishing.Phase.{landing, drained};
-ghost use Rattle.zs_machine.specs.History.{text_of};
-ghost use Rattle.zs_session.specs.Mirror.{HaveCause};
-ghost use Rattle.zs_session.specs.Session.{IsUp, IsReady, GoesOn};
+ghost use Rattle.zs_session.specs.Mirror.{Calls};
+ghost use Rattle.zs_session.specs.Session.{IsUp, IsReady, Passes, Stops, StopsLine};
 ghost use Rattle.zs_session.specs.Plays.{Went, WentAlone, AreDevicesOf};
 ghost use Rattle.zs_session.specs.Batches.{StandsStill};
 ghost use Rattle.zs_session.specs.Finish.{walk_left, finish_left, phase_at, MayWalk, MayHold, checked_to, AddsSync, EndsSync, Commits};
+ghost use Rattle.zs_session.specs.Turns.{WalksAlone};
 
 use crate::batches::judge;
 use crate::landing::land_next;
@@ -39,15 +39,13 @@ pub fn sync<D: Device>(pool: &mut Pool, devices: &mut [D]) -> Result<(), BayFaul
     ensures ends { OnOk result (IsComplete pool.old.core.scan → (is_at_work pool.new.core.state.scan ≡ false) ⊎ (pool.new.core.state.open_txg.txg ≡ TXG_END)) }
     ensures told { OnOk result (AddsSync (line_steps pool.old.history) (line_steps pool.new.history)) }
     ensures goes_on { OnOk result (Went pool.old pool.new (map D.told devices.old) (map D.told devices.new) []) }
-    ensures silent { OnErr result (text_of pool.new.history ≡ text_of pool.old.history) }
-    ensures went_on { OnErr result (GoesOn pool.old.history pool.new.history []) }
-    ensures sizes { map D.size devices.new ≡ map D.size devices.old }
-    ensures cause { HaveCause (map D.faults devices.old) (map D.faults devices.new) result }
+    ensures stops { Stops pool.old.history pool.new.history result }
+    ensures calls { Calls (map D.size devices.old) (map D.size devices.new) (map D.faults devices.old) (map D.faults devices.new) result }
 {
     pool.facts();
     let staged = match pool.begin_sync() {
         Ok(staged) => staged,
-        Err(PoolFault::Refused) => return Ok(()),
+        Err(PoolFault::Refused(_)) => return Ok(()),
         Err(PoolFault::Memory) => return Err(BayFault::Memory),
     };
     put_blocks(devices, staged.blocks.as_slice())?;
@@ -63,9 +61,8 @@ pub fn commit(pool: &mut Pool) -> Result<(), BayFault>
     ensures ends { OnOk result (IsComplete pool.old.core.scan → is_at_work pool.new.core.state.scan ≡ false) }
     ensures told { OnOk result (EndsSync (line_steps pool.old.history) (line_steps pool.new.history)) }
     ensures goes_on { OnOk result (Commits pool.old pool.new) }
-    ensures silent { OnErr result (text_of pool.new.history ≡ text_of pool.old.history) }
     ensures memory { OnErr result (result ≡ Err BayFault.Memory) }
-    ensures went_on { OnErr result (GoesOn pool.old.history pool.new.history []) }
+    ensures stops { Stops pool.old.history pool.new.history result }
 {
     pool.end_data()?;
     pool.committed()?;
@@ -106,10 +103,8 @@ fn land_flights<D: Device>(
     ensures up { OnOk result (IsUp pool.new) }
     ensures phase { OnOk result (phase_at pool.new.history ≡ landing) }
     ensures goes_on { OnOk result (Went pool.old pool.new (map D.told devices.old) (map D.told devices.new) []) }
-    ensures silent { text_of pool.new.history ≡ text_of pool.old.history }
-    ensures went_on { OnErr result (GoesOn pool.old.history pool.new.history []) }
-    ensures sizes { map D.size devices.new ≡ map D.size devices.old }
-    ensures cause { HaveCause (map D.faults devices.old) (map D.faults devices.new) result }
+    ensures passes { Passes pool.old.history pool.new.history result }
+    ensures calls { Calls (map D.size devices.old) (map D.size devices.new) (map D.faults devices.old) (map D.faults devices.new) result }
 {
     while land_next(alloc, pool, devices, by, good, buf)?.is_some() {}
     Ok(())
@@ -122,16 +117,14 @@ fn walk_on(pool: &mut Pool, by: u8) -> Result<bool, BayFault>
     requires runs { IsWalking pool.old.core.scan.run }
     requires landed { pool.old.core.scan.flight ≡ [] }
     requires phase { MayWalk (phase_at pool.old.history) }
-    ensures runs { OnOk result (IsWalking pool.new.core.scan.run) }
-    ensures landed { OnOk result (pool.new.core.scan.flight ≡ []) }
+    ensures walks { OnOk result (WalksAlone pool.new.core) }
     ensures walked { IfOk result (λ full. full ≡ false → (pool.new.core.scan.run.at ≡ Nowhere) × (pool.new.core.scan.run.todo ≡ [])) }
     ensures fewer { IfOk result (λ full. full ≡ true → walk_left pool.new.core < finish_left pool.old.core) }
     ensures up { OnOk result (IsUp pool.new) }
     ensures phase { IfOk result (λ full. MayHold (not full) (phase_at pool.new.history)) }
     ensures goes_on { OnOk result (WentAlone pool.old pool.new []) }
-    ensures silent { text_of pool.new.history ≡ text_of pool.old.history }
     ensures memory { OnErr result (result ≡ Err BayFault.Memory) }
-    ensures went_on { OnErr result (GoesOn pool.old.history pool.new.history []) }
+    ensures passes { Passes pool.old.history pool.new.history result }
 {
     pool.facts();
     loop {
@@ -162,10 +155,8 @@ fn check_next<D: Device>(
     ensures up { OnOk result (IsUp pool.new) }
     ensures phase { IfOk result (λ some. (over : Bool) → MayHold over (phase_at pool.old.history) → phase_at pool.new.history ≡ checked_to over some) }
     ensures goes_on { OnOk result (Went pool.old pool.new (map D.told devices.old) (map D.told devices.new) []) }
-    ensures silent { text_of pool.new.history ≡ text_of pool.old.history }
-    ensures went_on { OnErr result (GoesOn pool.old.history pool.new.history []) }
-    ensures sizes { map D.size devices.new ≡ map D.size devices.old }
-    ensures cause { HaveCause (map D.faults devices.old) (map D.faults devices.new) result }
+    ensures passes { Passes pool.old.history pool.new.history result }
+    ensures calls { Calls (map D.size devices.old) (map D.size devices.new) (map D.faults devices.old) (map D.faults devices.new) result }
 {
     pool.facts();
     let batch = pool.hold(by, 0, BATCH)?;
@@ -194,10 +185,8 @@ fn check_waiting<D: Device>(
     ensures up { OnOk result (IsUp pool.new) }
     ensures phase { OnOk result ((over : Bool) → MayHold over (phase_at pool.old.history) → phase_at pool.new.history ≡ drained over 1) }
     ensures goes_on { OnOk result (Went pool.old pool.new (map D.told devices.old) (map D.told devices.new) []) }
-    ensures silent { text_of pool.new.history ≡ text_of pool.old.history }
-    ensures went_on { OnErr result (GoesOn pool.old.history pool.new.history []) }
-    ensures sizes { map D.size devices.new ≡ map D.size devices.old }
-    ensures cause { HaveCause (map D.faults devices.old) (map D.faults devices.new) result }
+    ensures passes { Passes pool.old.history pool.new.history result }
+    ensures calls { Calls (map D.size devices.old) (map D.size devices.new) (map D.faults devices.old) (map D.faults devices.new) result }
 {
     while check_next(alloc, pool, devices, by, good, buf)? {}
     Ok(())
@@ -219,17 +208,14 @@ fn walk_and_check<D: Device>(
     requires devices { AreDevicesOf pool.old.core.shape (map D.size devices.old) }
     requires good { length good.old ≡ 131072 }
     requires buf { length buf.old ≡ 131072 }
-    ensures runs { OnOk result (IsWalking pool.new.core.scan.run) }
-    ensures landed { OnOk result (pool.new.core.scan.flight ≡ []) }
+    ensures walks { OnOk result (WalksAlone pool.new.core) }
     ensures complete { IfOk result (λ full. full ≡ false → IsComplete pool.new.core.scan) }
     ensures fewer { IfOk result (λ full. full ≡ true → finish_left pool.new.core < finish_left pool.old.core) }
     ensures up { OnOk result (IsUp pool.new) }
     ensures phase { IfOk result (λ full. phase_at pool.new.history ≡ drained (not full) 1) }
     ensures goes_on { OnOk result (Went pool.old pool.new (map D.told devices.old) (map D.told devices.new) []) }
-    ensures silent { text_of pool.new.history ≡ text_of pool.old.history }
-    ensures went_on { OnErr result (GoesOn pool.old.history pool.new.history []) }
-    ensures sizes { map D.size devices.new ≡ map D.size devices.old }
-    ensures cause { HaveCause (map D.faults devices.old) (map D.faults devices.new) result }
+    ensures passes { Passes pool.old.history pool.new.history result }
+    ensures calls { Calls (map D.size devices.old) (map D.size devices.new) (map D.faults devices.old) (map D.faults devices.new) result }
 {
     let full = walk_on(pool, by)?;
     check_waiting(alloc, pool, devices, by, good, buf)?;
@@ -256,10 +242,8 @@ fn complete<D: Device>(
     ensures up { OnOk result (IsUp pool.new) }
     ensures phase { OnOk result (phase_at pool.new.history ≡ drained true 1) }
     ensures goes_on { OnOk result (Went pool.old pool.new (map D.told devices.old) (map D.told devices.new) []) }
-    ensures silent { text_of pool.new.history ≡ text_of pool.old.history }
-    ensures went_on { OnErr result (GoesOn pool.old.history pool.new.history []) }
-    ensures sizes { map D.size devices.new ≡ map D.size devices.old }
-    ensures cause { HaveCause (map D.faults devices.old) (map D.faults devices.new) result }
+    ensures passes { Passes pool.old.history pool.new.history result }
+    ensures calls { Calls (map D.size devices.old) (map D.size devices.new) (map D.faults devices.old) (map D.faults devices.new) result }
 {
     while walk_and_check(alloc, pool, devices, by, good, buf)? {}
     Ok(())
@@ -283,10 +267,8 @@ fn end_scan<D: Device>(
     ensures up { OnOk result (IsUp pool.new) }
     ensures through { OnOk result (is_through (phase_at pool.new.history) ≡ true) }
     ensures goes_on { OnOk result (Went pool.old pool.new (map D.told devices.old) (map D.told devices.new) []) }
-    ensures silent { OnErr result (text_of pool.new.history ≡ text_of pool.old.history) }
-    ensures went_on { OnErr result (GoesOn pool.old.history pool.new.history []) }
-    ensures sizes { map D.size devices.new ≡ map D.size devices.old }
-    ensures cause { HaveCause (map D.faults devices.old) (map D.faults devices.new) result }
+    ensures stops { Stops pool.old.history pool.new.history result }
+    ensures calls { Calls (map D.size devices.old) (map D.size devices.new) (map D.faults devices.old) (map D.faults devices.new) result }
 {
     land_flights(alloc, pool, devices, by, good, buf)?;
     complete(alloc, pool, devices, by, good, buf)?;
@@ -308,10 +290,8 @@ pub fn finish<D: Device>(
     requires buf { length buf.old ≡ 131072 }
     ensures ready { OnOk result (IsReady pool.new) }
     ensures goes_on { OnOk result (Went pool.old pool.new (map D.told devices.old) (map D.told devices.new) (Command.Finish ∷ [])) }
-    ensures silent { IsErrOf result BayFault.Failed → text_of pool.new.history ≡ text_of pool.old.history }
-    ensures went_on { OnErr result (GoesOn pool.old.history pool.new.history []) }
-    ensures sizes { map D.size devices.new ≡ map D.size devices.old }
-    ensures cause { HaveCause (map D.faults devices.old) (map D.faults devices.new) result }
+    ensures stops { StopsLine pool.old.history pool.new.history result }
+    ensures calls { Calls (map D.size devices.old) (map D.size devices.new) (map D.faults devices.old) (map D.faults devices.new) result }
 {
     if let Some(why) = refusal(pool) {
         return end_line(pool, by, &Command::Finish, Reply::Refused(why));

@@ -4,8 +4,8 @@ ghost use Rattle.std.specs.Prelude.{◌≡◌, ◌≤◌, ◌<◌, ◌+◌, ◌*
 ghost use Rattle.zs_io.specs.Told.{Told};
 ghost use Rattle.zs_io.specs.Faults.{HasCause};
 ghost use Rattle.zs_script.specs.declared.refusal.Refusal.{Refusal};
-ghost use Rattle.zs_session.specs.Mirror.{told_at, HaveCause, SomeRose};
-ghost use Rattle.zs_session.specs.Images.{head_of, is_zero, least_sectors, most_sectors, AreFit, AreBlank, SomeWritten, IsImageFault, IsSizeFault, AreFresh, AsksAll, AsksFirst};
+ghost use Rattle.zs_session.specs.Mirror.{told_at, Calls};
+ghost use Rattle.zs_session.specs.Images.{head_of, is_zero, least_sectors, most_sectors, AreFit, AreBlank, SomeWritten, IsImageFault, IsSizeFault, AreFresh, AreSectors, TestCalls, AsksAll, AsksFirst};
 
 use crate::mirror::read_device;
 use std::alloc::{AllocError, AllocFailed, Global};
@@ -86,8 +86,7 @@ fn is_blank<D: Device>(devices: &mut [D], i: usize, buf: &mut [u8]) -> Result<bo
         (λ blank. Told (told_at (map D.told devices.old) i)
         (λ bytes. blank ≡ is_zero (head_of (slice_index (map D.size devices.old) i) bytes))) }
     ensures told { map D.told devices.new ≡ map D.told devices.old }
-    ensures sizes { map D.size devices.new ≡ map D.size devices.old }
-    ensures cause { HaveCause (map D.faults devices.old) (map D.faults devices.new) result }
+    ensures calls { Calls (map D.size devices.old) (map D.size devices.new) (map D.faults devices.old) (map D.faults devices.new) result }
 {
     let len = size_at(devices, i).min(HEAD) as usize;
     let head = &mut buf[..len];
@@ -109,8 +108,7 @@ fn are_blank<D: Device>(alloc: Global, devices: &mut [D]) -> Result<bool, BayFau
     ensures blank { IfOk result (λ blank. blank ≡ true → AreBlank (map D.size devices.old) (map D.told devices.old)) }
     ensures written { IfOk result (λ blank. blank ≡ false → SomeWritten (map D.size devices.old) (map D.told devices.old)) }
     ensures told { map D.told devices.new ≡ map D.told devices.old }
-    ensures sizes { map D.size devices.new ≡ map D.size devices.old }
-    ensures cause { HaveCause (map D.faults devices.old) (map D.faults devices.new) result }
+    ensures calls { Calls (map D.size devices.old) (map D.size devices.new) (map D.faults devices.old) (map D.faults devices.new) result }
 {
     let Ok(mut buf) = vec![in alloc; 0; HEAD as usize] else {
         return Err(BayFault::Memory);
@@ -123,8 +121,7 @@ fn are_blank_by<D: Device>(devices: &mut [D], buf: &mut [u8]) -> Result<bool, Ba
     ensures blank { IfOk result (λ blank. blank ≡ true → AreBlank (map D.size devices.old) (map D.told devices.old)) }
     ensures written { IfOk result (λ blank. blank ≡ false → SomeWritten (map D.size devices.old) (map D.told devices.old)) }
     ensures told { map D.told devices.new ≡ map D.told devices.old }
-    ensures sizes { map D.size devices.new ≡ map D.size devices.old }
-    ensures cause { HaveCause (map D.faults devices.old) (map D.faults devices.new) result }
+    ensures calls { Calls (map D.size devices.old) (map D.size devices.new) (map D.faults devices.old) (map D.faults devices.new) result }
 {
     for i in 0..devices.len() {
         match is_blank(devices, i, buf) {
@@ -192,17 +189,11 @@ pub fn test_images<D: Device>(
     blocks: u32,
 ) -> Result<Vec<u32>, ImageFault>
     ensures fit { OnOk result (AreFit width blocks (map D.size devices.old) (map D.told devices.old)) }
-    ensures count { IfOk result (λ sectors. length sectors.items ≡ width) }
-    ensures devices { OnOk result (length devices.old ≡ width) }
-    ensures sectors { IfOk result (λ sectors. (k : ℕ) → k < length devices.old → slice_index sectors.items k ≡ slice_index (map D.size devices.old) k / 512) }
-    ensures least { IfOk result (λ sectors. (k : ℕ) → k < length sectors.items → least_sectors blocks ≤ slice_index sectors.items k) }
-    ensures most { IfOk result (λ sectors. (k : ℕ) → k < length sectors.items → slice_index sectors.items k ≤ most_sectors) }
+    ensures sectors { IfOk result (λ sectors. AreSectors width blocks (length devices.old) (map D.size devices.old) sectors.items) }
     ensures unfit { (fault : Refusal) → IsErrOf result (ImageFault.Unfit fault) →
         IsImageFault width blocks (map D.size devices.old) (map D.told devices.old) fault }
-    ensures unread { IsErrOf result ImageFault.Unread → SomeRose (map D.faults devices.old) (map D.faults devices.new) }
-    ensures counts { (result ≢ Err ImageFault.Unread) → map D.faults devices.new ≡ map D.faults devices.old }
     ensures told { map D.told devices.new ≡ map D.told devices.old }
-    ensures sizes { map D.size devices.new ≡ map D.size devices.old }
+    ensures calls { TestCalls (map D.size devices.old) (map D.size devices.new) (map D.faults devices.old) (map D.faults devices.new) result }
 {
     if devices.len() != usize::from(width) {
         return Err(ImageFault::Unfit(Refusal::Shape));

@@ -1,16 +1,16 @@
 //! Batches in flight, which are checked in the order in which they were taken, and the line that does so.
 
-ghost use Rattle.std.specs.Prelude.{◌≡◌, ◌≤◌, ◌<◌, ◌+◌, ◌++◌, ◌∷◌, [], ℕ, List, None, Some, Ok, true, false, length, map, find, option_map, OnOk, OnErr, IfOk, IfSome, IsErrOf, Err};
+ghost use Rattle.std.specs.Prelude.{◌≡◌, ◌≤◌, ◌<◌, ◌+◌, ◌++◌, ◌∷◌, [], ℕ, List, None, Some, Ok, true, false, length, map, find, option_map, OnOk, OnErr, IfOk, IfSome, Err};
 ghost use Rattle.zs_ids.specs.Graph.{Has};
 ghost use Rattle.zs_machine.specs.declared.event.Event.{Event};
 ghost use Rattle.zs_scan.specs.Flight.{first_of};
 ghost use Rattle.zs_ids.specs.Piece.{is_piece};
 ghost use Rattle.zs_machine.specs.History.{text_of};
 ghost use Rattle.zs_machine.specs.Told.{letter_of, landed_of, shown_by};
-ghost use Rattle.zs_session.specs.Mirror.{HaveCause};
-ghost use Rattle.zs_session.specs.Session.{IsUp, IsReady, GoesOn};
+ghost use Rattle.zs_session.specs.Mirror.{Calls};
+ghost use Rattle.zs_session.specs.Session.{IsUp, IsReady, Passes, StopsLine};
 ghost use Rattle.zs_session.specs.Plays.{Went, AreDevicesOf};
-ghost use Rattle.zs_session.specs.Batches.{LandsFirst, HasLanded, GoesOnScanning};
+ghost use Rattle.zs_session.specs.Batches.{LandsNext, HasLanded, GoesOnScanning};
 
 use crate::batches::{entries_of, judge, letters_of};
 use crate::lines::end_line;
@@ -51,16 +51,13 @@ pub fn land_next<D: Device>(
     requires devices { AreDevicesOf pool.old.core.shape (map D.size devices.old) }
     requires good { length good.old ≡ 131072 }
     requires buf { length buf.old ≡ 131072 }
-    ensures none { result ≡ Ok None → (pool.old.core.scan.flight ≡ []) × (pool.new ≡ pool.old) }
+    ensures next { LandsNext by pool.old pool.new result }
     ensures goes_on { OnOk result (Went pool.old pool.new (map D.told devices.old) (map D.told devices.new) []) }
     ensures silent { text_of pool.new.history ≡ text_of pool.old.history }
-    ensures verdict { IfOk result (λ next. IfSome next (λ many. LandsFirst by pool.old many pool.new)) }
-    ensures fewer { (many : ℕ) → result ≡ Ok (Some many) → length pool.new.core.scan.flight < length pool.old.core.scan.flight }
     ensures scan { OnOk result (GoesOnScanning pool.old.core pool.new.core) }
     ensures up { OnOk result (IsUp pool.new) }
     ensures err { OnErr result (pool.new ≡ pool.old) }
-    ensures sizes { map D.size devices.new ≡ map D.size devices.old }
-    ensures cause { HaveCause (map D.faults devices.old) (map D.faults devices.new) result }
+    ensures calls { Calls (map D.size devices.old) (map D.size devices.new) (map D.faults devices.old) (map D.faults devices.new) result }
 {
     let Some(batch) = first_batch(alloc, pool.scan())? else {
         return Ok(None);
@@ -88,12 +85,10 @@ fn land_more<D: Device>(
     ensures none { result ≡ Ok None → (pool.old.core.scan.flight ≡ []) × (pool.new ≡ pool.old) × (landed.new ≡ landed.old) }
     ensures landed { IfOk result (λ next. IfSome next (λ made. HasLanded pool.new made landed.new.items)) }
     ensures fewer { (made : ℕ) → result ≡ Ok (Some made) → length pool.new.core.scan.flight < length pool.old.core.scan.flight }
-    ensures silent { text_of pool.new.history ≡ text_of pool.old.history }
     ensures up { OnOk result (IsUp pool.new) }
     ensures goes_on { OnOk result (Went pool.old pool.new (map D.told devices.old) (map D.told devices.new) []) }
-    ensures went_on { OnErr result (GoesOn pool.old.history pool.new.history []) }
-    ensures sizes { map D.size devices.new ≡ map D.size devices.old }
-    ensures cause { HaveCause (map D.faults devices.old) (map D.faults devices.new) result }
+    ensures passes { Passes pool.old.history pool.new.history result }
+    ensures calls { Calls (map D.size devices.old) (map D.size devices.new) (map D.faults devices.old) (map D.faults devices.new) result }
 {
     pool.facts();
     let Some(many) = land_next(alloc, pool, devices, by, good, buf)? else {
@@ -193,12 +188,10 @@ fn land_each<D: Device>(
     requires buf { length buf.old ≡ 131072 }
     ensures landed { IfOk result (λ made. HasLanded pool.new made landed.new.items) }
     ensures all { OnOk result (pool.new.core.scan.flight ≡ []) }
-    ensures silent { text_of pool.new.history ≡ text_of pool.old.history }
     ensures up { OnOk result (IsUp pool.new) }
     ensures goes_on { OnOk result (Went pool.old pool.new (map D.told devices.old) (map D.told devices.new) []) }
-    ensures went_on { OnErr result (GoesOn pool.old.history pool.new.history []) }
-    ensures sizes { map D.size devices.new ≡ map D.size devices.old }
-    ensures cause { HaveCause (map D.faults devices.old) (map D.faults devices.new) result }
+    ensures passes { Passes pool.old.history pool.new.history result }
+    ensures calls { Calls (map D.size devices.old) (map D.size devices.new) (map D.faults devices.old) (map D.faults devices.new) result }
 {
     let mut made = 0;
     loop {
@@ -224,10 +217,8 @@ pub fn land<D: Device>(
     requires buf { length buf.old ≡ 131072 }
     ensures ready { OnOk result (IsReady pool.new) }
     ensures goes_on { OnOk result (Went pool.old pool.new (map D.told devices.old) (map D.told devices.new) (Command.Land ∷ [])) }
-    ensures silent { IsErrOf result BayFault.Failed → text_of pool.new.history ≡ text_of pool.old.history }
-    ensures went_on { OnErr result (GoesOn pool.old.history pool.new.history []) }
-    ensures sizes { map D.size devices.new ≡ map D.size devices.old }
-    ensures cause { HaveCause (map D.faults devices.old) (map D.faults devices.new) result }
+    ensures stops { StopsLine pool.old.history pool.new.history result }
+    ensures calls { Calls (map D.size devices.old) (map D.size devices.new) (map D.faults devices.old) (map D.faults devices.new) result }
 {
     let mut landed = Vec::new(alloc);
     let entries = land_each(alloc, pool, devices, by, &mut landed, good, buf)?;

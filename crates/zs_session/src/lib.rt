@@ -16,6 +16,7 @@
 #![tactic(auto)]
 
 mod batches;
+mod end;
 mod finishing;
 mod images;
 mod landing;

@@ -1,15 +1,14 @@
 //! What each line of a script does to the pool and its devices.
 
-ghost use Rattle.std.specs.Prelude.{◌≡◌, ◌≤◌, ◌+◌, ◌*◌, ◌∷◌, [], ℕ, false, length, map, OnOk, OnErr, IsErrOf, Err};
+ghost use Rattle.std.specs.Prelude.{◌≡◌, ◌≤◌, ◌+◌, ◌*◌, ◌∷◌, [], ℕ, false, length, map, OnOk, OnErr, Err};
 ghost use Rattle.std.specs.Option.{option_copied};
-ghost use Rattle.zs_machine.specs.History.{text_of};
 ghost use Rattle.zs_core.specs.Line.{IsLineReply};
 ghost use Rattle.zs_core.specs.Reading.{IsGotFor};
 ghost use Rattle.zs_core.specs.Calls.{IsPoolCommand};
 ghost use Rattle.zs_script.specs.Lines.{IsLater};
-ghost use Rattle.zs_session.specs.Mirror.{HaveCause};
+ghost use Rattle.zs_session.specs.Mirror.{Calls};
 ghost use Rattle.zs_session.specs.OpenReads.{AwaitsRead, EndsOpenRead};
-ghost use Rattle.zs_session.specs.Session.{IsUp, IsReady, GoesOn, GoesPart};
+ghost use Rattle.zs_session.specs.Session.{IsUp, IsReady, StopsLine, StopsIn, WantsMemory};
 ghost use Rattle.zs_session.specs.Plays.{Went, WentAlone, AreDevicesOf};
 
 use crate::batches::{hold, issue};
@@ -29,8 +28,7 @@ pub fn end_line(pool: &mut Pool, by: u8, command: &Command, reply: Reply) -> Res
     requires up { IsUp pool.old }
     ensures ready { OnOk result (IsReady pool.new) }
     ensures goes_on { OnOk result (WentAlone pool.old pool.new (command.now ∷ [])) }
-    ensures memory { OnErr result (result ≡ Err BayFault.Memory) }
-    ensures went_on { OnErr result (GoesOn pool.old.history pool.new.history []) }
+    ensures stops { WantsMemory pool.old.history pool.new.history result }
 {
     Ok(pool.line(by, command, reply)?)
 }
@@ -50,15 +48,13 @@ fn read<D: Device>(
     requires buf { length buf.old ≡ 131072 }
     ensures ready { OnOk result (IsReady pool.new) }
     ensures goes_on { OnOk result (Went pool.old pool.new (map D.told devices.old) (map D.told devices.new) (Command.Read ds.now object leaf ∷ [])) }
-    ensures silent { IsErrOf result BayFault.Failed → text_of pool.new.history ≡ text_of pool.old.history }
-    ensures went_on { OnErr result (GoesPart pool.old.history pool.new.history (Command.Read ds.now object leaf ∷ [])) }
-    ensures sizes { map D.size devices.new ≡ map D.size devices.old }
-    ensures cause { HaveCause (map D.faults devices.old) (map D.faults devices.new) result }
+    ensures stops { StopsIn pool.old.history pool.new.history (Command.Read ds.now object leaf ∷ []) result }
+    ensures calls { Calls (map D.size devices.old) (map D.size devices.new) (map D.faults devices.old) (map D.faults devices.new) result }
 {
     pool.facts();
     let plan = match pool.read_begin(by, ds, object, leaf) {
         Ok(plan) => plan,
-        Err(PoolFault::Refused) => return Ok(()),
+        Err(PoolFault::Refused(_)) => return Ok(()),
         Err(PoolFault::Memory) => return Err(BayFault::Memory),
     };
     match plan {
@@ -103,10 +99,8 @@ pub fn run_line<D: Device>(
     requires buf { length buf.old ≡ 131072 }
     ensures ready { OnOk result (IsReady pool.new) }
     ensures goes_on { OnOk result (Went pool.old pool.new (map D.told devices.old) (map D.told devices.new) (line.now.command ∷ [])) }
-    ensures silent { IsErrOf result BayFault.Failed → text_of pool.new.history ≡ text_of pool.old.history }
-    ensures went_on { OnErr result (GoesPart pool.old.history pool.new.history (line.now.command ∷ [])) }
-    ensures sizes { map D.size devices.new ≡ map D.size devices.old }
-    ensures cause { HaveCause (map D.faults devices.old) (map D.faults devices.new) result }
+    ensures stops { StopsIn pool.old.history pool.new.history (line.now.command ∷ []) result }
+    ensures calls { Calls (map D.size devices.old) (map D.size devices.new) (map D.faults devices.old) (map D.faults devices.new) result }
 {
     let by = line.by;
     match &line.command {
@@ -134,8 +128,7 @@ fn command(pool: &mut Pool, line: &Line) -> Result<(), BayFault>
     requires ready { IsReady pool.old }
     ensures ready { OnOk result (IsReady pool.new) }
     ensures goes_on { OnOk result (WentAlone pool.old pool.new (line.now.command ∷ [])) }
-    ensures memory { OnErr result (result ≡ Err BayFault.Memory) }
-    ensures went_on { OnErr result (GoesOn pool.old.history pool.new.history []) }
+    ensures stops { WantsMemory pool.old.history pool.new.history result }
 {
     pool.command(line.by, &line.command)?;
     Ok(())
@@ -147,10 +140,8 @@ fn end_sync<D: Device>(pool: &mut Pool, devices: &mut [D], by: u8) -> Result<(),
     requires devices { AreDevicesOf pool.old.core.shape (map D.size devices.old) }
     ensures ready { OnOk result (IsReady pool.new) }
     ensures goes_on { OnOk result (Went pool.old pool.new (map D.told devices.old) (map D.told devices.new) (Command.Sync ∷ [])) }
-    ensures silent { IsErrOf result BayFault.Failed → text_of pool.new.history ≡ text_of pool.old.history }
-    ensures went_on { OnErr result (GoesOn pool.old.history pool.new.history []) }
-    ensures sizes { map D.size devices.new ≡ map D.size devices.old }
-    ensures cause { HaveCause (map D.faults devices.old) (map D.faults devices.new) result }
+    ensures stops { StopsLine pool.old.history pool.new.history result }
+    ensures calls { Calls (map D.size devices.old) (map D.size devices.new) (map D.faults devices.old) (map D.faults devices.new) result }
 {
     sync(pool, devices)?;
     end_line(pool, by, &Command::Sync, Reply::Nothing)

@@ -6,7 +6,7 @@ ghost use Rattle.zs_io.specs.Told.{Told, over};
 ghost use Rattle.zs_ledger.specs.declared.entry.CopyResult.TheVariants.{Missing};
 ghost use Rattle.zs_ledger.specs.Entry.{AreCopies};
 ghost use Rattle.sha2.specs.Sha256.{sha256};
-ghost use Rattle.zs_session.specs.Mirror.{start_of, size_of, copy_in, has_sum, IsOn, told_at, told_after, letter, IsChecked, AreRead, IsEntryOf, HaveCause, put_over, all_put_over, FitsOn, AllFit, changed_at, AreRewritten};
+ghost use Rattle.zs_session.specs.Mirror.{start_of, size_of, copy_in, has_sum, IsOn, told_at, told_after, letter, IsChecked, AreRead, IsEntryOf, Calls, put_over, all_put_over, FitsOn, AllFit, changed_at, AreRewritten};
 ghost use Rattle.zs_session.specs.Plays.{IsLost};
 
 use zs_ids::Item;
@@ -34,8 +34,7 @@ pub fn read_device<D: Device>(
     requires on { at + length buf.old ≤ slice_index_or (map D.size devices.old) i 0 }
     ensures read { OnOk result (Told (told_at (map D.told devices.old) i) (λ bytes. buf.new ≡ slice_range bytes at (at + length buf.old))) }
     ensures told { map D.told devices.new ≡ map D.told devices.old }
-    ensures sizes { map D.size devices.new ≡ map D.size devices.old }
-    ensures cause { HaveCause (map D.faults devices.old) (map D.faults devices.new) result }
+    ensures calls { Calls (map D.size devices.old) (map D.size devices.new) (map D.faults devices.old) (map D.faults devices.new) result }
 {
     let device = &mut devices[i];
     device.read_at(at, buf)
@@ -56,8 +55,7 @@ fn read_copy<D: Device>(
     ensures sum { IfOk result (λ good. good ≡ true → sha256 buf.new ≡ item.now.sum) }
     ensures read { OnOk result (Told (told_at (map D.told devices.old) i) (λ bytes. buf.new ≡ copy_in item.now bytes)) }
     ensures told { map D.told devices.new ≡ map D.told devices.old }
-    ensures sizes { map D.size devices.new ≡ map D.size devices.old }
-    ensures cause { HaveCause (map D.faults devices.old) (map D.faults devices.new) result }
+    ensures calls { Calls (map D.size devices.old) (map D.size devices.new) (map D.faults devices.old) (map D.faults devices.new) result }
 {
     read_device(devices, i, start_of(item), buf)?;
     Ok(sum(buf) == item.sum)
@@ -68,8 +66,7 @@ fn write_copy<D: Device>(devices: &mut [D], i: usize, at: u64, bytes: &[u8]) -> 
     requires device { i < length devices.old }
     requires on { at + length bytes.now ≤ slice_index_or (map D.size devices.old) i 0 }
     ensures told { OnOk result (map D.told devices.new ≡ changed_at (map D.told devices.old) i (option_map (over at bytes.now))) }
-    ensures sizes { map D.size devices.new ≡ map D.size devices.old }
-    ensures cause { HaveCause (map D.faults devices.old) (map D.faults devices.new) result }
+    ensures calls { Calls (map D.size devices.old) (map D.size devices.new) (map D.faults devices.old) (map D.faults devices.new) result }
 {
     let device = &mut devices[i];
     device.write_at(at, bytes)
@@ -79,8 +76,7 @@ fn write_copy<D: Device>(devices: &mut [D], i: usize, at: u64, bytes: &[u8]) -> 
 fn sync_copy<D: Device>(devices: &mut [D], i: usize) -> Result<(), BayFault>
     requires device { i < length devices.old }
     ensures told { map D.told devices.new ≡ map D.told devices.old }
-    ensures sizes { map D.size devices.new ≡ map D.size devices.old }
-    ensures cause { HaveCause (map D.faults devices.old) (map D.faults devices.new) result }
+    ensures calls { Calls (map D.size devices.old) (map D.size devices.new) (map D.faults devices.old) (map D.faults devices.new) result }
 {
     let device = &mut devices[i];
     device.sync()
@@ -94,8 +90,7 @@ pub fn read_any<D: Device>(devices: &mut [D], item: &Item, buf: &mut [u8]) -> Re
     ensures found { IfOk result (λ found. found ≡ true → sha256 buf.new ≡ item.now.sum) }
     ensures lost { IfOk result (λ found. found ≡ false → IsLost item.now (map D.told devices.old)) }
     ensures told { map D.told devices.new ≡ map D.told devices.old }
-    ensures sizes { map D.size devices.new ≡ map D.size devices.old }
-    ensures cause { HaveCause (map D.faults devices.old) (map D.faults devices.new) result }
+    ensures calls { Calls (map D.size devices.old) (map D.size devices.new) (map D.faults devices.old) (map D.faults devices.new) result }
 {
     for i in 0..devices.len() {
         if read_copy(devices, i, item, buf)? {
@@ -123,8 +118,7 @@ fn keep_copy<D: Device>(
     requires read { AreRead item.now i before goods.old good.old }
     ensures read { OnOk result (AreRead item.now (i + 1) before goods.new good.new) }
     ensures told { map D.told devices.new ≡ map D.told devices.old }
-    ensures sizes { map D.size devices.new ≡ map D.size devices.old }
-    ensures cause { HaveCause (map D.faults devices.old) (map D.faults devices.new) result }
+    ensures calls { Calls (map D.size devices.old) (map D.size devices.new) (map D.faults devices.old) (map D.faults devices.new) result }
 {
     if read_copy(devices, i, item, buf)? {
         good.copy_from_slice(buf);
@@ -147,8 +141,7 @@ fn read_copies<D: Device>(
     requires unread { AreRead item.now 0 (map D.told devices.old) goods.old good.old }
     ensures read { OnOk result (AreRead item.now (length devices.old) (map D.told devices.old) goods.new good.new) }
     ensures told { map D.told devices.new ≡ map D.told devices.old }
-    ensures sizes { map D.size devices.new ≡ map D.size devices.old }
-    ensures cause { HaveCause (map D.faults devices.old) (map D.faults devices.new) result }
+    ensures calls { Calls (map D.size devices.old) (map D.size devices.new) (map D.faults devices.old) (map D.faults devices.new) result }
 {
     for i in 0..devices.len() {
         keep_copy(devices, i, item, goods, good, buf)?;
@@ -200,8 +193,7 @@ fn rewrite_copy<D: Device>(
     requires size { length good.now ≡ size_of item.now }
     requires on { IsOn item.now (slice_index_or (map D.size devices.old) i 0) }
     ensures told { OnOk result (map D.told devices.new ≡ changed_at (map D.told devices.old) i (told_after (start_of item.now) good.now copy)) }
-    ensures sizes { map D.size devices.new ≡ map D.size devices.old }
-    ensures cause { HaveCause (map D.faults devices.old) (map D.faults devices.new) result }
+    ensures calls { Calls (map D.size devices.old) (map D.size devices.new) (map D.faults devices.old) (map D.faults devices.new) result }
 {
     match copy {
         CopyResult::Rewritten => {}
@@ -226,8 +218,7 @@ fn rewrite_copies<D: Device>(
     requires size { length good.now ≡ size_of item.now }
     requires on { (k : ℕ) → k < length devices.old → IsOn item.now (slice_index_or (map D.size devices.old) k 0) }
     ensures told { OnOk result (AreRewritten item.now (length devices.old) good.now copies.now (map D.told devices.old) (map D.told devices.new)) }
-    ensures sizes { map D.size devices.new ≡ map D.size devices.old }
-    ensures cause { HaveCause (map D.faults devices.old) (map D.faults devices.new) result }
+    ensures calls { Calls (map D.size devices.old) (map D.size devices.new) (map D.faults devices.old) (map D.faults devices.new) result }
 {
     for i in 0..devices.len() {
         rewrite_copy(devices, i, item, copies[i], good)?;
@@ -250,8 +241,7 @@ pub fn check<D: Device>(
     ensures checked { IfOk result (λ entry. IsChecked item.now (length devices.old) (map D.told devices.old) (map D.told devices.new) entry.copies) }
     ensures entry { IfOk result (λ entry. IsEntryOf item.now entry) }
     ensures copies { IfOk result (λ entry. AreCopies (length devices.old) entry.copies) }
-    ensures sizes { map D.size devices.new ≡ map D.size devices.old }
-    ensures cause { HaveCause (map D.faults devices.old) (map D.faults devices.new) result }
+    ensures calls { Calls (map D.size devices.old) (map D.size devices.new) (map D.faults devices.old) (map D.faults devices.new) result }
 {
     let mut goods = [false; 4];
     read_copies(devices, item, &mut goods, good, buf)?;
@@ -270,8 +260,7 @@ pub fn check<D: Device>(
 fn write_each<D: Device>(devices: &mut [D], at: u64, bytes: &[u8]) -> Result<(), BayFault>
     requires on { (k : ℕ) → k < length devices.old → at + length bytes.now ≤ slice_index_or (map D.size devices.old) k 0 }
     ensures told { OnOk result (map D.told devices.new ≡ map (option_map (over at bytes.now)) (map D.told devices.old)) }
-    ensures sizes { map D.size devices.new ≡ map D.size devices.old }
-    ensures cause { HaveCause (map D.faults devices.old) (map D.faults devices.new) result }
+    ensures calls { Calls (map D.size devices.old) (map D.size devices.new) (map D.faults devices.old) (map D.faults devices.new) result }
 {
     for i in 0..devices.len() {
         write_copy(devices, i, at, bytes)?;
@@ -282,8 +271,7 @@ fn write_each<D: Device>(devices: &mut [D], at: u64, bytes: &[u8]) -> Result<(),
 /// Syncs every device.
 fn sync_each<D: Device>(devices: &mut [D]) -> Result<(), BayFault>
     ensures told { map D.told devices.new ≡ map D.told devices.old }
-    ensures sizes { map D.size devices.new ≡ map D.size devices.old }
-    ensures cause { HaveCause (map D.faults devices.old) (map D.faults devices.new) result }
+    ensures calls { Calls (map D.size devices.old) (map D.size devices.new) (map D.faults devices.old) (map D.faults devices.new) result }
 {
     for i in 0..devices.len() {
         sync_copy(devices, i)?;
@@ -295,8 +283,7 @@ fn sync_each<D: Device>(devices: &mut [D]) -> Result<(), BayFault>
 fn put_block<D: Device>(devices: &mut [D], block: &StagedBlock) -> Result<(), BayFault>
     requires on { (k : ℕ) → k < length devices.old → FitsOn block.now (slice_index_or (map D.size devices.old) k 0) }
     ensures told { OnOk result (map D.told devices.new ≡ map (option_map (put_over block.now)) (map D.told devices.old)) }
-    ensures sizes { map D.size devices.new ≡ map D.size devices.old }
-    ensures cause { HaveCause (map D.faults devices.old) (map D.faults devices.new) result }
+    ensures calls { Calls (map D.size devices.old) (map D.size devices.new) (map D.faults devices.old) (map D.faults devices.new) result }
 {
     let at = 512 * u64::from(block.bp.places[0].sector);
     write_each(devices, at, block.bytes.as_slice())
@@ -306,8 +293,7 @@ fn put_block<D: Device>(devices: &mut [D], block: &StagedBlock) -> Result<(), Ba
 pub fn put_blocks<D: Device>(devices: &mut [D], blocks: &[StagedBlock]) -> Result<(), BayFault>
     requires on { AllFit blocks.now (map D.size devices.old) }
     ensures told { OnOk result (map D.told devices.new ≡ map (option_map (all_put_over blocks.now)) (map D.told devices.old)) }
-    ensures sizes { map D.size devices.new ≡ map D.size devices.old }
-    ensures cause { HaveCause (map D.faults devices.old) (map D.faults devices.new) result }
+    ensures calls { Calls (map D.size devices.old) (map D.size devices.new) (map D.faults devices.old) (map D.faults devices.new) result }
 {
     if blocks.len() == 0 {
         return Ok(());

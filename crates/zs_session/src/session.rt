@@ -1,21 +1,19 @@
 //! Sessions: the lines of a script over the images that were fetched, one after another, with each reply put before
 //! the next line is run.
 
-ghost use Rattle.std.specs.Prelude.{◌≡◌, ◌≢◌, ◌≤◌, ◌++◌, ◌∷◌, [], ◌⊎◌, ℕ, List, Option, None, Some, false, All, length, map, option_map, OnOk, OnErr, IfOk, IfSome, IsSome, IsErrOf, Err};
-ghost use Rattle.zs_machine.specs.History.{text_of, IsHistory};
-ghost use Rattle.zs_core.specs.Safe.{IsSafe};
-ghost use Rattle.zs_io.specs.Faults.{Rose};
+ghost use Rattle.std.specs.Prelude.{◌≡◌, ◌≢◌, ◌≤◌, ◌++◌, ◌∷◌, [], ◌⊎◌, ℕ, List, Option, None, Some, false, All, length, map, option_map, OnOk, OnErr, IfOk, IsErrOf, Err};
+ghost use Rattle.zs_machine.specs.History.{text_of};
 ghost use Rattle.zs_script.specs.Texts.{reply_text};
-ghost use Rattle.zs_session.specs.Mirror.{HaveCause, SomeRose};
-ghost use Rattle.zs_session.specs.Images.{AreFresh, HasFailed};
+ghost use Rattle.zs_session.specs.Images.{AreFresh, TestCalls};
 ghost use Rattle.zs_script.specs.Lines.{IsFirst, IsLater, IsScript};
-ghost use Rattle.zs_machine.specs.Commands.{commands_of};
-ghost use Rattle.zs_session.specs.Plays.{Went, Plays, IsMade, AreDevicesOf};
-ghost use Rattle.zs_session.specs.Session.{IsReady, GoesOn, GoesPart, AreFirst, commands_in, HasReason, HasSinkReason, IsFitFor, IsUnfitFor, AreFitFor, AreUnfitFor};
-ghost use Rattle.zs_session.specs.Puts.{Puts, PutsPart, PutsOn, PutsPartOn, PutsRefusal, refused_line};
-ghost use Rattle.zs_session.specs.Ending.{IsSessionStatus, history_in, devices_in, KeepsImages};
+ghost use Rattle.zs_session.specs.Plays.{Went, IsMade, MakesPool, AreDevicesOf};
+ghost use Rattle.zs_session.specs.Session.{IsReady, GoesPart, commands_in, LineCalls, HasSinkReason, IsFitFor, IsUnfitFor};
+ghost use Rattle.zs_session.specs.Puts.{Puts, PutsPart, PutsLine, PutsLines, PutsLast, refused_line};
+ghost use Rattle.zs_session.specs.Ending.{code, IsSessionStatus, devices_in, KeepsImages, KeepsPool, RunsOn, RunsAll, UsesImages, RefusesImages, CountsCalls, CountsSink};
+ghost use Rattle.zs_session.specs.Runs.{EndsInSession, PutsHistory};
 
 use crate::batches::BLOCK_BYTES;
+use crate::end::End;
 use crate::finishing::commit;
 use crate::images::{ImageFault, test_images};
 use crate::lines::run_line;
@@ -97,11 +95,9 @@ fn take_line<D: Device, K: Sink>(
     ensures ready { OnOk result (IsReady pool.new) }
     ensures goes_on { OnOk result (Went pool.old pool.new (map D.told devices.old) (map D.told devices.new) (line.now.command ∷ [])) }
     ensures went_on { OnErr result (GoesPart pool.old.history pool.new.history (line.now.command ∷ [])) }
-    ensures told { OnOk result (PutsOn (text_of pool.old.history) (text_of pool.new.history) (K.told out.old) (K.told out.new)) }
-    ensures part { OnErr result (PutsPartOn (text_of pool.old.history) (text_of pool.new.history) (K.told out.old) (K.told out.new)) }
-    ensures whole { IsErrOf result Stop.Device → PutsOn (text_of pool.old.history) (text_of pool.new.history) (K.told out.old) (K.told out.new) }
-    ensures sizes { map D.size devices.new ≡ map D.size devices.old }
-    ensures cause { HasReason (map D.faults devices.old) (map D.faults devices.new) (K.faults out.old) (K.faults out.new) result }
+    ensures text { PutsLine (text_of pool.old.history) (text_of pool.new.history) (K.told out.old) (K.told out.new) result }
+    ensures calls { LineCalls (map D.size devices.old) (map D.size devices.new) (map D.faults devices.old) (map D.faults devices.new)
+        (K.faults out.old) (K.faults out.new) result }
 {
     pool.facts();
     let before = pool.history().len();
@@ -135,11 +131,9 @@ fn run_lines<D: Device, K: Sink>(
     ensures ready { OnOk result (IsReady pool.new) }
     ensures goes_on { OnOk result (Went pool.old pool.new (map D.told devices.old) (map D.told devices.new) (commands_in lines.now)) }
     ensures went_on { OnErr result (GoesPart pool.old.history pool.new.history (commands_in lines.now)) }
-    ensures told { OnOk result (K.told out.new ≡ option_map (λ bytes. bytes ++ text_of pool.new.history) (K.told out.old)) }
-    ensures part { PutsPart (text_of pool.new.history) (K.told out.old) (K.told out.new) }
-    ensures whole { IsErrOf result Stop.Device → Puts (text_of pool.new.history) (K.told out.old) (K.told out.new) }
-    ensures sizes { map D.size devices.new ≡ map D.size devices.old }
-    ensures cause { HasReason (map D.faults devices.old) (map D.faults devices.new) (K.faults out.old) (K.faults out.new) result }
+    ensures text { PutsLines (text_of pool.new.history) (K.told out.old) (K.told out.new) result }
+    ensures calls { LineCalls (map D.size devices.old) (map D.size devices.new) (map D.faults devices.old) (map D.faults devices.new)
+        (K.faults out.old) (K.faults out.new) result }
 {
     pool.facts();
     match put_events(alloc, pool.history(), out) {
@@ -169,11 +163,9 @@ fn run_pool<D: Device, K: Sink>(
     ensures ready { OnOk result (IsReady pool.new) }
     ensures goes_on { OnOk result (Went pool.old pool.new (map D.told devices.old) (map D.told devices.new) (commands_in lines.now)) }
     ensures went_on { OnErr result (GoesPart pool.old.history pool.new.history (commands_in lines.now)) }
-    ensures told { OnOk result (K.told out.new ≡ option_map (λ bytes. bytes ++ text_of pool.new.history) (K.told out.old)) }
-    ensures part { PutsPart (text_of pool.new.history) (K.told out.old) (K.told out.new) }
-    ensures whole { IsErrOf result Stop.Device → Puts (text_of pool.new.history) (K.told out.old) (K.told out.new) }
-    ensures sizes { map D.size devices.new ≡ map D.size devices.old }
-    ensures cause { HasReason (map D.faults devices.old) (map D.faults devices.new) (K.faults out.old) (K.faults out.new) result }
+    ensures text { PutsLines (text_of pool.new.history) (K.told out.old) (K.told out.new) result }
+    ensures calls { LineCalls (map D.size devices.old) (map D.size devices.new) (map D.faults devices.old) (map D.faults devices.new)
+        (K.faults out.old) (K.faults out.new) result }
 {
     pool.facts();
     let Ok(()) = commit(pool) else {
@@ -198,16 +190,12 @@ fn make_pool<D: Device>(
     devices: &mut [D],
 ) -> Result<Pool, ImageFault>
     requires first { IsFirst command.now }
-    ensures made { IfOk result (λ pool. commands_of pool.history ≡ command.now ∷ []) }
-    ensures is_made { IfOk result IsMade }
-    ensures devices { IfOk result (λ pool. AreDevicesOf pool.core.shape (map D.size devices.old)) }
+    ensures pool { IfOk result (λ pool. MakesPool command.now (map D.size devices.old) pool) }
     ensures fit { OnOk result (IsFitFor command.now (map D.size devices.old) (map D.told devices.old)) }
     ensures unfit { (fault : Refusal) → IsErrOf result (ImageFault.Unfit fault) →
         IsUnfitFor command.now (map D.size devices.old) (map D.told devices.old) fault }
-    ensures unread { IsErrOf result ImageFault.Unread → SomeRose (map D.faults devices.old) (map D.faults devices.new) }
-    ensures counts { (result ≢ Err ImageFault.Unread) → map D.faults devices.new ≡ map D.faults devices.old }
     ensures told { map D.told devices.new ≡ map D.told devices.old }
-    ensures sizes { map D.size devices.new ≡ map D.size devices.old }
+    ensures calls { TestCalls (map D.size devices.old) (map D.size devices.new) (map D.faults devices.old) (map D.faults devices.new) result }
 {
     let Command::Pool {
         pool,
@@ -240,25 +228,25 @@ fn make_pool<D: Device>(
 
 impl<D: Drop> Ended<D> {
     /// With a session.
-    fn with(status: u8, session: Session<D>, alloc: Global) -> Self
-        ensures status { result.status ≡ status }
+    fn with(end: End, session: Session<D>, alloc: Global) -> Self
+        ensures status { result.status ≡ code end }
         ensures session { result.session ≡ Some session }
     {
         Ended {
-            status,
+            status: end.code(),
             session: Some(session),
             devices: Vec::new(alloc),
         }
     }
 
     /// Without a session.
-    pub fn without(status: u8, devices: Vec<D>) -> Self
-        ensures status { result.status ≡ status }
+    pub fn without(end: End, devices: Vec<D>) -> Self
+        ensures status { result.status ≡ code end }
         ensures session { result.session ≡ None }
         ensures devices { result.devices.items ≡ devices.items }
     {
         Ended {
-            status,
+            status: end.code(),
             session: None,
             devices,
         }
@@ -267,19 +255,18 @@ impl<D: Drop> Ended<D> {
 
 /// Puts the one line with which a program ends that made no pool. Where it can't be put, the status is 6.
 #[tactic(auto, using(crate::proofs::Texts::part_all))]
-pub fn end_with<D: Drop, K: Sink>(status: u8, line: &[u8], devices: Vec<D>, out: &mut K) -> Ended<D>
-    requires { status ≢ 6 }
-    ensures status { (result.status ≡ status) ⊎ (result.status ≡ 6) }
+pub fn end_with<D: Drop, K: Sink>(end: End, line: &[u8], devices: Vec<D>, out: &mut K) -> Ended<D>
+    requires { end ≢ End.Sink }
+    ensures status { (result.status ≡ code end) ⊎ (result.status ≡ 6) }
     ensures session { result.session ≡ None }
     ensures devices { result.devices.items ≡ devices.items }
     ensures whole { result.status ≢ 6 → Puts line.now (K.told out.old) (K.told out.new) }
     ensures part { PutsPart line.now (K.told out.old) (K.told out.new) }
-    ensures sink { result.status ≡ 6 → Rose (K.faults out.old) (K.faults out.new) }
-    ensures sink_kept { result.status ≢ 6 → K.faults out.new ≡ K.faults out.old }
+    ensures sink { CountsSink result.status (K.faults out.old) (K.faults out.new) }
 {
     match out.put(line) {
-        Ok(()) => Ended::without(status, devices),
-        Err(_) => Ended::without(6, devices),
+        Ok(()) => Ended::without(end, devices),
+        Err(_) => Ended::without(End::Sink, devices),
     }
 }
 
@@ -293,34 +280,13 @@ pub fn step_session<D: Device + Drop, K: Sink>(
     requires script { IsScript lines.now }
     requires fresh { AreFresh (map D.faults devices.items) }
     ensures status { IsSessionStatus result.status }
-    ensures text { result.status ≡ 0 → K.told out.new ≡ option_map (λ bytes. bytes ++ text_of (history_in result.session)) (K.told out.old) }
-    ensures lines { result.status ≡ 0 → commands_of (history_in result.session) ≡ commands_in lines.now }
-    ensures lines_cut { IsSome result.session → AreFirst (commands_of (history_in result.session)) (commands_in lines.now) }
-    ensures session { result.status ≡ 0 → IsSome result.session }
-    ensures idle { result.status ≡ 0 → IfSome result.session (λ s. IsReady s.pool) }
-    ensures plays { result.status ≡ 0 →
-        IfSome result.session
-        (λ s. Plays s.pool.core.shape.width s.pool.history (map D.told devices.items) (map D.told s.devices.items)) }
-    ensures images { KeepsImages D.size D.told devices.items result }
-    ensures refused { result.status ≡ 3 → result.session ≡ None }
-    ensures history { IfSome result.session (λ s. IsHistory s.pool.history s.pool.core.state) }
-    ensures safe { IfSome result.session (λ s. IsSafe s.pool.core) }
-    ensures part { IsSome result.session → PutsPart (text_of (history_in result.session)) (K.told out.old) (K.told out.new) }
-    ensures whole { result.status ≡ 4 → IsSome result.session → Puts (text_of (history_in result.session)) (K.told out.old) (K.told out.new) }
-    ensures fit { IsSome result.session → AreFitFor lines.now (map D.size devices.items) (map D.told devices.items) }
-    ensures unfit { result.status ≡ 3 →
-        (fault : Refusal) ×
-        AreUnfitFor lines.now (map D.size result.devices.items) (map D.told result.devices.items) fault ×
-        Puts (refused_line fault) (K.told out.old) (K.told out.new) }
-    ensures unread { result.status ≡ 4 → result.session ≡ None →
-        HasFailed (map D.faults result.devices.items) ×
-        Puts (refused_line Refusal.NotBlank) (K.told out.old) (K.told out.new) }
-    ensures cut { result.session ≡ None → PutsRefusal (K.told out.old) (K.told out.new) }
-    ensures silent { result.session ≡ None → result.status ≡ 7 → K.told out.new ≡ K.told out.old }
-    ensures failed { result.status ≡ 4 → HasFailed (map D.faults (devices_in result.session result.devices.items)) }
-    ensures unfailed { result.status ≢ 4 → result.status ≢ 6 → result.status ≢ 7 → AreFresh (map D.faults (devices_in result.session result.devices.items)) }
-    ensures sink { result.status ≡ 6 → Rose (K.faults out.old) (K.faults out.new) }
-    ensures sink_kept { result.status ≢ 6 → K.faults out.new ≡ K.faults out.old }
+    ensures session { EndsInSession result }
+    ensures text { PutsHistory (K.told out.old) (K.told out.new) result }
+    ensures lines { RunsAll lines.now result }
+    ensures images { UsesImages lines.now D.size D.told devices.items result }
+    ensures refused { RefusesImages lines.now D.size D.told D.faults (K.told out.old) (K.told out.new) result }
+    ensures devices { CountsCalls result.status (map D.faults (devices_in result.session result.devices.items)) }
+    ensures sink { CountsSink result.status (K.faults out.old) (K.faults out.new) }
 {
     let mut devices = devices;
     let Some((first, others)) = lines.split_first() else {
@@ -328,9 +294,9 @@ pub fn step_session<D: Device + Drop, K: Sink>(
     };
     match make_pool(alloc, &first.command, devices.as_mut_slice()) {
         Ok(pool) => run_session(alloc, Session { pool, devices }, others, out),
-        Err(ImageFault::Unfit(refusal)) => refuse(alloc, refusal, 3, devices, out),
-        Err(ImageFault::Unread) => refuse(alloc, Refusal::NotBlank, 4, devices, out),
-        Err(ImageFault::Memory) => Ended::without(7, devices),
+        Err(ImageFault::Unfit(refusal)) => refuse(alloc, refusal, End::Unfit, devices, out),
+        Err(ImageFault::Unread) => refuse(alloc, Refusal::NotBlank, End::Device, devices, out),
+        Err(ImageFault::Memory) => Ended::without(End::Memory, devices),
     }
 }
 
@@ -346,24 +312,21 @@ fn refusal_text(alloc: Global, refusal: Refusal) -> Result<Vec<u8>, AllocError>
 fn refuse<D: Drop, K: Sink>(
     alloc: Global,
     refusal: Refusal,
-    status: u8,
+    end: End,
     devices: Vec<D>,
     out: &mut K,
 ) -> Ended<D>
-    requires { (status ≡ 3) ⊎ (status ≡ 4) }
-    ensures status { (result.status ≡ status) ⊎ ((result.status ≡ 6) ⊎ (result.status ≡ 7)) }
+    requires { (end ≡ End.Unfit) ⊎ (end ≡ End.Device) }
+    ensures status { (result.status ≡ code end) ⊎ ((result.status ≡ 6) ⊎ (result.status ≡ 7)) }
     ensures session { result.session ≡ None }
     ensures devices { result.devices.items ≡ devices.items }
-    ensures whole { (result.status ≢ 6) → (result.status ≢ 7) → Puts (refused_line refusal) (K.told out.old) (K.told out.new) }
-    ensures part { PutsPart (refused_line refusal) (K.told out.old) (K.told out.new) }
-    ensures silent { result.status ≡ 7 → K.told out.new ≡ K.told out.old }
-    ensures sink { result.status ≡ 6 → Rose (K.faults out.old) (K.faults out.new) }
-    ensures sink_kept { result.status ≢ 6 → K.faults out.new ≡ K.faults out.old }
+    ensures text { PutsLast (refused_line refusal) result.status (K.told out.old) (K.told out.new) }
+    ensures sink { CountsSink result.status (K.faults out.old) (K.faults out.new) }
 {
     let Ok(line) = refusal_text(alloc, refusal) else {
-        return Ended::without(7, devices);
+        return Ended::without(End::Memory, devices);
     };
-    end_with(status, line.as_slice(), devices, out)
+    end_with(end, line.as_slice(), devices, out)
 }
 
 /// Runs the lines behind the first with the pool that it made.
@@ -377,26 +340,13 @@ fn run_session<D: Device + Drop, K: Sink>(
     requires made { IsMade session.pool }
     requires devices { AreDevicesOf session.pool.core.shape (map D.size session.devices.items) }
     requires fresh { AreFresh (map D.faults session.devices.items) }
-    ensures status { IsSessionStatus result.status }
-    ensures ran { result.status ≢ 3 }
-    ensures text { result.status ≡ 0 → K.told out.new ≡ option_map (λ bytes. bytes ++ text_of (history_in result.session)) (K.told out.old) }
-    ensures part { PutsPart (text_of (history_in result.session)) (K.told out.old) (K.told out.new) }
-    ensures whole { result.status ≡ 4 → Puts (text_of (history_in result.session)) (K.told out.old) (K.told out.new) }
-    ensures goes_on { result.status ≡ 0 → GoesOn session.pool.history (history_in result.session) (commands_in lines.now) }
-    ensures plays { result.status ≡ 0 →
-        IfSome result.session
-        (λ s. Went session.pool s.pool (map D.told session.devices.items) (map D.told s.devices.items)
-        (commands_in lines.now)) }
-    ensures went_on { GoesPart session.pool.history (history_in result.session) (commands_in lines.now) }
-    ensures session { IsSome result.session }
-    ensures idle { result.status ≡ 0 → IfSome result.session (λ s. IsReady s.pool) }
+    ensures pool { KeepsPool result }
+    ensures session { EndsInSession result }
+    ensures text { PutsHistory (K.told out.old) (K.told out.new) result }
+    ensures lines { RunsOn D.told session lines.now result }
     ensures images { KeepsImages D.size D.told session.devices.items result }
-    ensures history { IfSome result.session (λ s. IsHistory s.pool.history s.pool.core.state) }
-    ensures safe { IfSome result.session (λ s. IsSafe s.pool.core) }
-    ensures failed { result.status ≡ 4 → HasFailed (map D.faults (devices_in result.session result.devices.items)) }
-    ensures unfailed { result.status ≢ 4 → result.status ≢ 6 → result.status ≢ 7 → AreFresh (map D.faults (devices_in result.session result.devices.items)) }
-    ensures sink { result.status ≡ 6 → Rose (K.faults out.old) (K.faults out.new) }
-    ensures sink_kept { result.status ≢ 6 → K.faults out.new ≡ K.faults out.old }
+    ensures devices { CountsCalls result.status (map D.faults (devices_in result.session result.devices.items)) }
+    ensures sink { CountsSink result.status (K.faults out.old) (K.faults out.new) }
 {
     let mut session = session;
     let outcome = run_pool(
@@ -408,9 +358,9 @@ fn run_session<D: Device + Drop, K: Sink>(
     );
     session.pool.facts();
     match outcome {
-        Ok(()) => Ended::with(0, session, alloc),
-        Err(Stop::Device) => Ended::with(4, session, alloc),
-        Err(Stop::Sink) => Ended::with(6, session, alloc),
-        Err(Stop::Memory) => Ended::with(7, session, alloc),
+        Ok(()) => Ended::with(End::Done, session, alloc),
+        Err(Stop::Device) => Ended::with(End::Device, session, alloc),
+        Err(Stop::Sink) => Ended::with(End::Sink, session, alloc),
+        Err(Stop::Memory) => Ended::with(End::Memory, session, alloc),
     }
 }

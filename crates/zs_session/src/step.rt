@@ -1,14 +1,15 @@
 //! The top call: a script from a source, run over the images of a bay, with its replies put into a sink.
 
-ghost use Rattle.std.specs.Prelude.{◌≡◌, ◌≢◌, ◌≤◌, ◌<◌, ◌-◌, [], ◌⊎◌, None, true, false, length, map, OnOk, IfOk, IsErrOf, string_bytes};
+ghost use Rattle.std.specs.Prelude.{◌≡◌, ◌≤◌, ◌<◌, ◌-◌, [], ◌⊎◌, None, true, false, length, map, OnOk, IfOk, IsErrOf, string_bytes};
 ghost use Rattle.std.specs.List.{list_all};
 ghost use Rattle.zs_io.specs.Faults.{Rose};
 ghost use Rattle.zs_io.specs.Told.{Told};
-ghost use Rattle.zs_session.specs.Ending.{devices_in};
-ghost use Rattle.zs_session.specs.Puts.{Puts, PutsPart, fault_line};
+ghost use Rattle.zs_session.specs.Ending.{devices_in, CountsSink};
+ghost use Rattle.zs_session.specs.Puts.{PutsLast, fault_line};
 ghost use Rattle.zs_session.specs.Step.{is_image, are_images, is_step, names_in, read_of};
 ghost use Rattle.zs_session.specs.Runs.{EndsInUsage, EndsInFault, IsUntouched, HasAskedFor, EndsRefused, EndsUnmade, HandsBack, EndsInSession, RunsLines, PutsHistory, CountsDevices, CountsStreams};
 
+use crate::end::End;
 use crate::images::fetch_images;
 use crate::session::{Ended, end_with, step_session};
 use std::alloc::{AllocError, Global};
@@ -138,16 +139,13 @@ fn tell_fault<D: Drop, K: Sink>(
     ensures status { (result.status ≡ 2) ⊎ ((result.status ≡ 6) ⊎ (result.status ≡ 7)) }
     ensures session { result.session ≡ None }
     ensures devices { result.devices.items ≡ devices.items }
-    ensures whole { (result.status ≢ 6) → (result.status ≢ 7) → Puts (fault_line line why) (K.told out.old) (K.told out.new) }
-    ensures part { PutsPart (fault_line line why) (K.told out.old) (K.told out.new) }
-    ensures silent { result.status ≡ 7 → K.told out.new ≡ K.told out.old }
-    ensures sink { result.status ≡ 6 → Rose (K.faults out.old) (K.faults out.new) }
-    ensures sink_kept { result.status ≢ 6 → K.faults out.new ≡ K.faults out.old }
+    ensures text { PutsLast (fault_line line why) result.status (K.told out.old) (K.told out.new) }
+    ensures sink { CountsSink result.status (K.faults out.old) (K.faults out.new) }
 {
     let Ok(text) = fault_text(alloc, line, why) else {
-        return Ended::without(7, devices);
+        return Ended::without(End::Memory, devices);
     };
-    end_with(2, text.as_slice(), devices, out)
+    end_with(End::Fault, text.as_slice(), devices, out)
 }
 
 /// Runs the program on the words of its command line, which are `step` and the names of one to sixteen images, in
@@ -180,21 +178,21 @@ pub fn run_step<B: Bay, S: Source, K: Sink>(
 {
     let mut devices = Vec::new(alloc);
     if !is_step(words) {
-        return end_with(1, b"usage\n", devices, out);
+        return end_with(End::Usage, b"usage\n", devices, out);
     }
     let script = match read_script(alloc, src) {
         Ok(script) => script,
-        Err(ReadFault::Failed) => return Ended::without(5, devices),
-        Err(ReadFault::Memory) => return Ended::without(7, devices),
+        Err(ReadFault::Failed) => return Ended::without(End::Source, devices),
+        Err(ReadFault::Memory) => return Ended::without(End::Memory, devices),
     };
     let lines = match parse(alloc, script.as_slice()) {
         Ok(lines) => lines,
         Err(ScriptFault::Bad { line, why }) => return tell_fault(alloc, line, why, devices, out),
-        Err(ScriptFault::Memory) => return Ended::without(7, devices),
+        Err(ScriptFault::Memory) => return Ended::without(End::Memory, devices),
     };
     match fetch_images(&words[1..], bay, &mut devices) {
         Ok(()) => step_session(alloc, lines.as_slice(), devices, out),
-        Err(BayFault::Failed) => Ended::without(4, devices),
-        Err(BayFault::Memory) => Ended::without(7, devices),
+        Err(BayFault::Failed) => Ended::without(End::Device, devices),
+        Err(BayFault::Memory) => Ended::without(End::Memory, devices),
     }
 }

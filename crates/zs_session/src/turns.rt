@@ -1,15 +1,12 @@
 //! Turns of the walk, and the line that makes some of them.
 
-ghost use Rattle.std.specs.Prelude.{◌≡◌, ◌≢◌, ◌≤◌, ◌<◌, ◌+◌, ◌∷◌, [], ℕ, OnOk, OnErr, IfOk, Ok, Err};
-ghost use Rattle.zs_phys.specs.Turn.{HasNoWork};
-ghost use Rattle.zs_scan.specs.Walks.{IsFull};
+ghost use Rattle.std.specs.Prelude.{◌≡◌, ◌≢◌, ◌≤◌, ◌<◌, ◌∷◌, [], OnOk, OnErr, IfOk, Ok, Err};
 ghost use Rattle.zs_core.specs.Line.{IsWhy, waiting_counts};
 ghost use Rattle.zs_machine.specs.Told.{AreTurns, line_steps};
-ghost use Rattle.zs_machine.specs.History.{text_of};
-ghost use Rattle.zs_session.specs.Session.{IsUp, IsReady, GoesOn};
+ghost use Rattle.zs_session.specs.Session.{IsUp, IsReady, Passes, WantsMemory};
 ghost use Rattle.zs_session.specs.Plays.{WentAlone};
-ghost use Rattle.zs_session.specs.Batches.{GoesOnScanning};
-ghost use Rattle.zs_session.specs.Finish.{TurnsTo, walk_left};
+ghost use Rattle.zs_session.specs.Finish.{TurnsTo};
+ghost use Rattle.zs_session.specs.Turns.{CountsTurn, FindsTurn, LeavesFlight};
 
 use crate::lines::end_line;
 use std::alloc::{AllocError, Global};
@@ -47,17 +44,12 @@ pub fn turn(pool: &mut Pool, by: u8) -> Result<Turned, BayFault>
     requires up { IsUp pool.old }
     ensures up { OnOk result (IsUp pool.new) }
     ensures goes_on { OnOk result (WentAlone pool.old pool.new []) }
-    ensures made { result ≡ Ok Turned.Made → (n : ℕ) → AreTurns (line_steps pool.old.history) n → AreTurns (line_steps pool.new.history) (n + 1) }
-    ensures none { IfOk result (λ made. made ≢ Turned.Made → (n : ℕ) → AreTurns (line_steps pool.old.history) n → AreTurns (line_steps pool.new.history) n) }
-    ensures scan { OnOk result (GoesOnScanning pool.old.core pool.new.core) }
-    ensures flight { OnOk result (pool.new.core.scan.flight ≡ pool.old.core.scan.flight) }
-    ensures fewer { result ≡ Ok Turned.Made → walk_left pool.new.core < walk_left pool.old.core }
-    ensures nothing { result ≡ Ok Turned.Nothing → HasNoWork pool.new.core.scan.run × (pool.new.core ≡ pool.old.core) }
-    ensures full { result ≡ Ok Turned.Full → IsFull pool.new.core.state.graph pool.new.core.scan × (pool.new.core ≡ pool.old.core) }
+    ensures counts { CountsTurn (line_steps pool.old.history) (line_steps pool.new.history) result }
+    ensures scan { OnOk result (LeavesFlight pool.old.core pool.new.core) }
+    ensures finds { FindsTurn pool.old.core pool.new.core result }
     ensures phase { IfOk result (λ turned. TurnsTo turned pool.old.history pool.new.history) }
-    ensures silent { text_of pool.new.history ≡ text_of pool.old.history }
     ensures memory { OnErr result (result ≡ Err BayFault.Memory) }
-    ensures went_on { OnErr result (GoesOn pool.old.history pool.new.history []) }
+    ensures passes { Passes pool.old.history pool.new.history result }
 {
     match pool.walk(by) {
         Ok(turn) => Ok(outcome_of(turn)),
@@ -75,8 +67,7 @@ fn make_turns(pool: &mut Pool, by: u8, most: u32) -> Result<(u32, WalkEnd), BayF
     ensures made { IfOk result (λ walked. AreTurns (line_steps pool.new.history) walked.0) }
     ensures few { IfOk result (λ walked. walked.0 ≤ most) }
     ensures why { IfOk result (λ walked. IsWhy pool.new.core most walked.0 walked.1) }
-    ensures memory { OnErr result (result ≡ Err BayFault.Memory) }
-    ensures went_on { OnErr result (GoesOn pool.old.history pool.new.history []) }
+    ensures stops { WantsMemory pool.old.history pool.new.history result }
 {
     for made in 0..most {
         match turn(pool, by)? {
@@ -101,8 +92,7 @@ pub fn walk(alloc: Global, pool: &mut Pool, by: u8, turns: u32) -> Result<(), Ba
     requires ready { IsReady pool.old }
     ensures ready { OnOk result (IsReady pool.new) }
     ensures goes_on { OnOk result (WentAlone pool.old pool.new (Command.Walk turns ∷ [])) }
-    ensures memory { OnErr result (result ≡ Err BayFault.Memory) }
-    ensures went_on { OnErr result (GoesOn pool.old.history pool.new.history []) }
+    ensures stops { WantsMemory pool.old.history pool.new.history result }
 {
     let (made, why) = make_turns(pool, by, turns)?;
     let Ok(waiting) = waiting_counts(alloc, pool.scan()) else {

@@ -1,9 +1,8 @@
 use Rattle.std.proofs.Common.{◌≤◌, ap, ◌∙◌, refl, length, map, arith}
 use Rattle.zs_scan.specs.declared.batch.Batch.{Batch}
-use Rattle.zs_machine.specs.History.{text_of}
-use Rattle.zs_core.specs.View.{CoreView, PoolView}
+use Rattle.zs_core.specs.View.{CoreView}
 use Rattle.zs_session.proofs.Draining.{few_held}
-use Rattle.zs_session.proofs.Histories.{went_adds, went_twice, silent_adds}
+use Rattle.zs_session.proofs.Histories.{passes_adds, passes_same, passes_twice, went_adds, went_twice}
 use Rattle.zs_session.proofs.Judged.{flies, whole_of, waiting_stays}
 use Rattle.zs_session.proofs.LineSteps.{was_issued}
 use Rattle.zs_session.proofs.Taking.{took_all, took_still, as_many_shown}
@@ -14,9 +13,18 @@ judge-requires-clause-flies g c =
     let some : 1 ≤ length c.in_ok-batch.batch.items = omega (arith, c.len.ensures, c.if-len-eq0.false) in
     flies c.args.pool.now.core.scan c.hold.new.self.core.scan c.in_ok-batch.batch (c.in_ok-batch.ensures.taken some)
 
-pub returns-in_err-judge-clause-silent : goal.returns-in_err-judge-clause-silent
-returns-in_err-judge-clause-silent g c failed =
-    ap (λ (p : PoolView). text_of p.history) c.in_err-judge.ensures.err ∙ silent_adds _ _ _ _ c.in_ok-batch.ensures.event
+pub returns-in_err-judge-clause-passes : goal.returns-in_err-judge-clause-passes
+returns-in_err-judge-clause-passes g c =
+    passes_same _ _ _ _ c.in_err-judge.ensures.err (passes_adds _ _ _ _ _ refl c.in_ok-batch.ensures.event)
+
+pub returns-then-len-eq0-clause-passes : goal.returns-then-len-eq0-clause-passes
+returns-then-len-eq0-clause-passes g c = passes_adds _ _ _ _ _ refl c.in_ok-batch.ensures.event
+
+pub returns-in_err-issued_last-clause-passes : goal.returns-in_err-issued_last-clause-passes
+returns-in_err-issued_last-clause-passes g c = passes_twice _ _ _ _ _ _ refl c.in_ok-batch.ensures.event (passes_adds _ _ _ _ _ refl c.in_ok-judge.ensures.verdict.event)
+
+pub returns-clause-passes : goal.returns-clause-passes
+returns-clause-passes g c = passes_twice _ _ _ _ _ _ refl c.in_ok-batch.ensures.event (passes_adds _ _ _ _ _ refl c.in_ok-judge.ensures.verdict.event)
 
 pub returns-clause-told : goal.returns-clause-told
 returns-clause-told g c =

@@ -1,5 +1,5 @@
 use Rattle.std.proofs.Common.{map}
-use Rattle.zs_session.proofs.Histories.{went_twice}
+use Rattle.zs_session.proofs.Histories.{line_after, went_twice}
 use Rattle.zs_session.proofs.Outcomes.{where_ok}
 use Rattle.zs_session.proofs.Taking.{took_on}
 use Rattle.zs_session.proofs.batches.issue.Goals as goal
@@ -11,3 +11,6 @@ returns-clause-goes_on g c =
 pub returns-clause-batch : goal.returns-clause-batch
 returns-clause-batch g c =
     where_ok c.end_line.result (λ alone. took_on _ _ _ _ _ _ _ _ c.in_ok-shown.ensures.batch (alone (map g.D.Device.told c.check_some.new.devices))) c.end_line.ensures.goes_on
+
+pub returns-clause-stops : goal.returns-clause-stops
+returns-clause-stops g c = line_after _ _ _ _ _ _ c.in_ok-shown.ensures.goes_on c.end_line.ensures.stops

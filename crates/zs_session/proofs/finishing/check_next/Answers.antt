@@ -3,10 +3,9 @@ use Rattle.std.proofs.lemmas.List.{length-map}
 use Rattle.zs_ids.specs.declared.block.Item.{Item}
 use Rattle.zs_scan.specs.declared.batch.Batch.{Batch}
 use Rattle.zs_scan.specs.View.{ScanView}
-use Rattle.zs_core.specs.View.{CoreView, PoolView}
-use Rattle.zs_machine.specs.History.{text_of}
+use Rattle.zs_core.specs.View.{CoreView}
 use Rattle.zs_session.proofs.Draining.{none_left, fewer_wait}
-use Rattle.zs_session.proofs.Histories.{silent_adds, went_after, went_one}
+use Rattle.zs_session.proofs.Histories.{passes_adds, passes_same, passes_twice, went_after, went_one}
 use Rattle.zs_session.proofs.Judged.{flies, waiting_stays}
 use Rattle.zs_session.proofs.Phases.{held_none, held_some}
 use Rattle.zs_session.proofs.finishing.check_next.Goals as goal
@@ -21,16 +20,17 @@ returns-then-len-eq0-clause-phase g c over may =
     let none : length c.in_ok-batch.batch.items ≡ 0 = omega (arith, c.len.ensures, c.if-len-eq0.true) in
     held_none _ _ _ _ _ _ _ c.in_ok-batch.ensures.event (length-map c.in_ok-batch.batch.items (λ (i : Item). i.piece) ∙ none) over may
 
-pub returns-then-len-eq0-clause-silent : goal.returns-then-len-eq0-clause-silent
-returns-then-len-eq0-clause-silent g c = silent_adds _ _ _ _ c.in_ok-batch.ensures.event
+pub returns-then-len-eq0-clause-passes : goal.returns-then-len-eq0-clause-passes
+returns-then-len-eq0-clause-passes g c = passes_adds _ _ _ _ _ refl c.in_ok-batch.ensures.event
 
 pub judge-requires-clause-flies : goal.judge-requires-clause-flies
 judge-requires-clause-flies g c =
     let some : 1 ≤ length c.in_ok-batch.batch.items = omega (arith, c.len.ensures, c.if-len-eq0.false) in
     flies c.args.pool.now.core.scan c.hold.new.self.core.scan c.in_ok-batch.batch (c.in_ok-batch.ensures.taken some)
 
-pub returns-in_err-judge-clause-silent : goal.returns-in_err-judge-clause-silent
-returns-in_err-judge-clause-silent g c = ap (λ (p : PoolView). text_of p.history) c.in_err-judge.ensures.err ∙ silent_adds _ _ _ _ c.in_ok-batch.ensures.event
+pub returns-in_err-judge-clause-passes : goal.returns-in_err-judge-clause-passes
+returns-in_err-judge-clause-passes g c =
+    passes_same _ _ _ _ c.in_err-judge.ensures.err (passes_adds _ _ _ _ _ refl c.in_ok-batch.ensures.event)
 
 pub returns-clause-fewer : goal.returns-clause-fewer
 returns-clause-fewer g c is =
@@ -48,5 +48,5 @@ pub returns-clause-goes_on : goal.returns-clause-goes_on
 returns-clause-goes_on g c =
     went_after _ _ _ _ _ _ _ (went_one _ _ _ _ c.hold.new.self (map g.D.Device.told c.args.devices.now) _ c.in_ok-batch.ensures.event (ap (λ (v : CoreView). v.shape) c.hold.ensures.core) refl) c.in_ok-judge.ensures.goes_on
 
-pub returns-clause-silent : goal.returns-clause-silent
-returns-clause-silent g c = silent_adds _ _ _ _ c.in_ok-judge.ensures.verdict.event ∙ silent_adds _ _ _ _ c.in_ok-batch.ensures.event
+pub returns-clause-passes : goal.returns-clause-passes
+returns-clause-passes g c = passes_twice _ _ _ _ _ _ refl c.in_ok-batch.ensures.event (passes_adds _ _ _ _ _ refl c.in_ok-judge.ensures.verdict.event)

@@ -1,9 +1,10 @@
-use Rattle.std.proofs.Common.{◌≡◌, [], map}
+use Rattle.std.proofs.Common.{Ok, ◌≡◌, [], map}
 use Rattle.zs_phys.specs.Turn.{IsWalking}
 use Rattle.zs_machine.specs.History.{text_of}
 use Rattle.zs_session.specs.Session.{IsUp}
 use Rattle.zs_session.specs.Plays.{Went}
 use Rattle.zs_session.specs.Finish.{MayWalk, phase_at, finish_left}
+use Rattle.zs_session.specs.Mirror.{Calls}
 use Rattle.zs_session.proofs.finishing.complete.Given as goal
 
 abbrev pub invariant-loop : goal.invariant-loop
@@ -14,8 +15,7 @@ invariant-loop g l = record {
   runs : IsWalking l.pool.core.scan.run;
   landed : l.pool.core.scan.flight ≡ [];
   phase : MayWalk (phase_at l.pool.history);
-  sizes : map g.D.Device.size l.devices ≡ map g.D.Device.size l.initial.devices;
-  counts : map g.D.Device.faults l.devices ≡ map g.D.Device.faults l.initial.devices;
+  calls : Calls {T = Unit {0}} (map g.D.Device.size l.initial.devices) (map g.D.Device.size l.devices) (map g.D.Device.faults l.initial.devices) (map g.D.Device.faults l.devices) (Ok tt);
 }
 
 abbrev pub decreases-loop : goal.decreases-loop

@@ -5,6 +5,7 @@ use Rattle.zs_machine.specs.History.{text_of}
 use Rattle.zs_machine.specs.Finishing.Phase.{landing}
 use Rattle.zs_session.specs.Batches.{LandsFirst}
 use Rattle.zs_session.specs.Finish.{phase_at}
+use Rattle.zs_session.proofs.Devices.{calls_on}
 use Rattle.zs_session.proofs.Histories.{silent_adds, went_after}
 use Rattle.zs_session.proofs.Phases.{lands}
 use Rattle.zs_session.proofs.Walking.{still_walking}
@@ -18,15 +19,14 @@ landed by old new (Some many) some first was =
 
 pub loop-preserved : goal.loop-preserved
 loop-preserved g c =
-    let both = landed _ c.loop.pool c.land_next.new.pool _ (sym c.is_some.ensures ∙ c.if-is_some.true) c.in_ok-land_next.ensures.verdict c.loop.invariant.phase in
+    let both = landed _ c.loop.pool c.land_next.new.pool _ (sym c.is_some.ensures ∙ c.if-is_some.true) c.in_ok-land_next.ensures.next.verdict c.loop.invariant.phase in
     record {
       up = c.in_ok-land_next.ensures.up;
       goes_on = went_after _ _ _ _ _ _ _ c.loop.invariant.goes_on c.in_ok-land_next.ensures.goes_on;
       silent = both.1 ∙ c.loop.invariant.silent;
       runs = λ was. still_walking _ _ c.in_ok-land_next.ensures.scan (c.loop.invariant.runs was);
       phase = both.0;
-      sizes = c.land_next.ensures.sizes ∙ c.loop.invariant.sizes;
-      counts = c.in_ok-land_next.ensures.cause.ok ∙ c.loop.invariant.counts;
+      calls = calls_on c.loop.invariant.calls c.in_ok-land_next.ensures.calls;
     }
 
 pub returns-clause-goes_on : goal.returns-clause-goes_on

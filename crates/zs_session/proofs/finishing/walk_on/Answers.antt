@@ -1,23 +1,23 @@
-use Rattle.std.proofs.Common.{◌∙◌, ap, subst, sym, Ok}
+use Rattle.std.proofs.Common.{[], ◌∙◌, ap, subst, sym, Ok}
 use Rattle.zs_session.specs.declared.turns.Turned.{Turned}
 use Rattle.zs_session.specs.Finish.{MayWalk, phase_at, turned_to}
-use Rattle.zs_session.proofs.Histories.{alone_after, goes_after, handed}
+use Rattle.zs_session.proofs.Histories.{alone_after, passes_after}
 use Rattle.zs_session.proofs.Phases.{holds_for, walks_on}
 use Rattle.zs_session.proofs.Walking.{fewer_turns, still_walking}
 use Rattle.zs_session.proofs.finishing.walk_on.Goals as goal
 
-pub returns-in_err-turn-clause-went_on : goal.returns-in_err-turn-clause-went_on
-returns-in_err-turn-clause-went_on c = handed _ (goes_after _ _ _ _ c.loop.invariant.goes_on c.in_err-turn.ensures.went_on)
+pub returns-in_err-turn-clause-passes : goal.returns-in_err-turn-clause-passes
+returns-in_err-turn-clause-passes c = passes_after _ _ _ [] [] _ (c.loop.invariant.goes_on []) c.loop.invariant.silent c.in_err-turn.ensures.passes
 
 pub loop-preserved : goal.loop-preserved
 loop-preserved c = record {
   up = c.in_ok-turn.ensures.up;
   goes_on = alone_after _ _ _ _ c.loop.invariant.goes_on c.in_ok-turn.ensures.goes_on;
-  silent = c.turn.ensures.silent ∙ c.loop.invariant.silent;
-  runs = still_walking _ _ c.in_ok-turn.ensures.scan c.loop.invariant.runs;
-  landed = c.in_ok-turn.ensures.flight ∙ c.loop.invariant.landed;
+  silent = c.turn.ensures.passes.silent ∙ c.loop.invariant.silent;
+  runs = still_walking _ _ c.in_ok-turn.ensures.scan.scan c.loop.invariant.runs;
+  landed = c.in_ok-turn.ensures.scan.flight ∙ c.loop.invariant.landed;
   phase = walks_on _ (c.in_ok-turn.ensures.phase c.loop.invariant.phase ∙ ap (λ (t : Turned). turned_to t (phase_at c.loop.pool.history)) c.in-Made.is);
-  fewer = fewer_turns _ c.loop.pool.core _ c.loop.invariant.fewer (c.turn.ensures.fewer (c.in_ok-turn.was ∙ ap Ok c.in-Made.is));
+  fewer = fewer_turns _ c.loop.pool.core _ c.loop.invariant.fewer (c.turn.ensures.finds.fewer (c.in_ok-turn.was ∙ ap Ok c.in-Made.is));
 }
 
 pub returns-in-Nothing-clause-goes_on : goal.returns-in-Nothing-clause-goes_on

@@ -7,6 +7,6 @@ use Rattle.zs_session.proofs.landing.land_more.Goals as goal
 pub returns-clause-landed : goal.returns-clause-landed
 returns-clause-landed g c =
     let lands : LandsFirst c.args.by c.args.pool.now c.in-Some.many c.land_next.new.pool =
-    subst (λ (next : Option ℕ). IfSome next (λ many. LandsFirst c.args.by c.args.pool.now many c.land_next.new.pool)) c.in-Some.is c.in_ok-many.ensures.verdict in
+    subst (λ (next : Option ℕ). IfSome next (λ many. LandsFirst c.args.by c.args.pool.now many c.land_next.new.pool)) c.in-Some.is c.in_ok-many.ensures.next.verdict in
     landed_more c.args.by c.args.made c.in-Some.many c.args.landed.now.items c.show_last.new.landed.items c.args.pool.now c.land_next.new.pool lands c.facts.ensures.safe.orderly c.facts.ensures.flight c.requires.landed
     (c.in_ok-show_last.ensures _ _ (c.history.ensures ∙ lands.verdict.event))

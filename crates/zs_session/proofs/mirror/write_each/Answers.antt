@@ -1,7 +1,7 @@
 use Rattle.std.proofs.Common.{◌<◌, ◌∙◌, map, option_map, length, None, arith}
 use Rattle.std.proofs.lemmas.List.{length-map}
 use Rattle.zs_io.specs.Told.{over}
-use Rattle.zs_session.proofs.Devices.{next_changed}
+use Rattle.zs_session.proofs.Devices.{calls_on, next_changed}
 use Rattle.zs_session.proofs.mirror.write_each.Goals as goal
 
 pub loop-i-preserved : goal.loop-i-preserved
@@ -10,6 +10,5 @@ loop-i-preserved g c =
     let there : c.loop-i.i < length (map g.D.Device.told c.args.devices.now) = omega (arith, length-map c.args.devices.now g.D.Device.told, c.loop-i.auto.devices) in
     record {
       told = c.in_ok-write_copy.ensures.told ∙ next_changed (option_map (over c.args.at c.args.bytes.now)) (map g.D.Device.told c.args.devices.now) (map g.D.Device.told c.loop-i.devices) c.loop-i.i None there here c.loop-i.invariant.told;
-      sizes = c.write_copy.ensures.sizes ∙ c.loop-i.invariant.sizes;
-      counts = c.in_ok-write_copy.ensures.cause.ok ∙ c.loop-i.invariant.counts;
+      calls = calls_on c.loop-i.invariant.calls c.in_ok-write_copy.ensures.calls;
     }

@@ -10,21 +10,29 @@ pub loop-line-preserved : goal.loop-line-preserved
 loop-line-preserved g c = record {
   ready = c.in-Ok-take_line.ensures.ready;
   goes_on = went_next c.args.pool.now c.loop-line.pool c.take_line.new.pool (map g.D.Device.told c.args.devices.now) (map g.D.Device.told c.loop-line.devices) (map g.D.Device.told c.take_line.new.devices) c.args.lines.now c.loop-line.line-index _ c.loop-line-test.true c.loop-line.invariant.goes_on c.in-Ok-take_line.ensures.goes_on;
-  told = c.in-Ok-take_line.ensures.told _ c.loop-line.invariant.told;
-  sizes = c.take_line.ensures.sizes ∙ c.loop-line.invariant.sizes;
-  counts = c.in-Ok-take_line.ensures.cause.ok.0 ∙ c.loop-line.invariant.counts;
-  faults = c.in-Ok-take_line.ensures.cause.ok.1 ∙ c.loop-line.invariant.faults;
+  told = c.in-Ok-take_line.ensures.text.told _ c.loop-line.invariant.told;
+  sizes = c.take_line.ensures.calls.sizes ∙ c.loop-line.invariant.sizes;
+  counts = c.in-Ok-take_line.ensures.calls.cause.ok.0 ∙ c.loop-line.invariant.counts;
+  faults = c.in-Ok-take_line.ensures.calls.cause.ok.1 ∙ c.loop-line.invariant.faults;
 }
 
-pub returns-clause-part : goal.returns-clause-part
-returns-clause-part g c = part_all (g.K.Sink.told c.args.out.now) (g.K.Sink.told c.loop-line.out) (text_of c.loop-line.pool.history) c.loop-line.invariant.told
+pub returns-clause-text : goal.returns-clause-text
+returns-clause-text g c = record {
+  told = c.loop-line.invariant.told;
+  part = part_all (g.K.Sink.told c.args.out.now) (g.K.Sink.told c.loop-line.out) (text_of c.loop-line.pool.history) c.loop-line.invariant.told;
+  whole = λ is. c.loop-line.invariant.told;
+}
 
 pub returns-in-Err-take_line-clause-went_on : goal.returns-in-Err-take_line-clause-went_on
 returns-in-Err-take_line-clause-went_on g c =
     part_of_lines c.args.pool.now.history c.loop-line.pool.history c.take_line.new.pool.history c.args.lines.now c.loop-line.line-index _ c.loop-line-test.true (goes_of _ _ _ _ _ c.loop-line.invariant.goes_on) c.in-Err-take_line.ensures.went_on
 
-pub returns-in-Err-take_line-clause-whole : goal.returns-in-Err-take_line-clause-whole
-returns-in-Err-take_line-clause-whole g c is = c.in-Err-take_line.ensures.whole is _ c.loop-line.invariant.told
+pub returns-in-Err-take_line-clause-text : goal.returns-in-Err-take_line-clause-text
+returns-in-Err-take_line-clause-text g c = record {
+  told = tt;
+  part = c.in-Err-take_line.ensures.text.part _ c.loop-line.invariant.told;
+  whole = λ is. c.in-Err-take_line.ensures.text.whole is _ c.loop-line.invariant.told;
+}
 
 pub take_line-requires-clause-devices : goal.take_line-requires-clause-devices
 take_line-requires-clause-devices g c =
@@ -40,6 +48,3 @@ loop-line-init g c = record {
   counts = refl;
   faults = c.in-Ok.ensures.cause.ok;
 }
-
-pub returns-in-Err-take_line-clause-part : goal.returns-in-Err-take_line-clause-part
-returns-in-Err-take_line-clause-part g c = c.in-Err-take_line.ensures.part _ c.loop-line.invariant.told

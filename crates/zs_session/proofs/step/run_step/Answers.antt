@@ -9,7 +9,7 @@ use Rattle.zs_session.proofs.step.run_step.Goals as goal
 pub returns-in-Err-Bad-clause-fault : goal.returns-in-Err-Bad-clause-fault
 returns-in-Err-Bad-clause-fault g c =
     some_fault (is_step c.args.words.now) (g.S.Source.left c.args.src.now) c.as_slice.result.now _ _ c.tell_fault.result.status (g.K.Sink.told c.args.out.now) (g.K.Sink.told c.tell_fault.new.out) c.tell_fault.ensures.status
-    (λ script told. c.as_slice.ensures.value ∙ c.in-Ok.ensures.script script told) (rw c.in-Err-Bad.field-0-is at c.in-Err-Bad.ensures.exact) c.tell_fault.ensures.whole c.tell_fault.ensures.part
+    (λ script told. c.as_slice.ensures.value ∙ c.in-Ok.ensures.script script told) (rw c.in-Err-Bad.field-0-is at c.in-Err-Bad.ensures.exact) c.tell_fault.ensures.text.whole c.tell_fault.ensures.text.part
 
 pub returns-in-Err-Bad-clause-refused : goal.returns-in-Err-Bad-clause-refused
 returns-in-Err-Bad-clause-refused g c =
@@ -24,19 +24,19 @@ returns-in-Ok-fetch_images-clause-fault g c =
 pub returns-in-Ok-fetch_images-clause-refused : goal.returns-in-Ok-fetch_images-clause-refused
 returns-in-Ok-fetch_images-clause-refused g c =
     refuses (is_step c.args.words.now) (g.S.Source.left c.args.src.now) g.B.Dev.Device.size g.B.Dev.Device.told c.as_slice.result.now c.in-Ok-parse.lines.items _ (g.K.Sink.told c.args.out.now) (g.K.Sink.told c.step_session.new.out) c.step_session.result
-    (λ script told. c.as_slice.ensures.value ∙ c.in-Ok.ensures.script script told) c.in-Ok-parse.ensures.exact c.as_slice-in-Ok-fetch_images.ensures.value c.step_session.ensures.unfit c.step_session.ensures.cut
+    (λ script told. c.as_slice.ensures.value ∙ c.in-Ok.ensures.script script told) c.in-Ok-parse.ensures.exact c.as_slice-in-Ok-fetch_images.ensures.value c.step_session.ensures.refused.unfit c.step_session.ensures.refused.cut
 
 pub returns-in-Ok-fetch_images-clause-lines : goal.returns-in-Ok-fetch_images-clause-lines
 returns-in-Ok-fetch_images-clause-lines g c =
     runs_lines (g.S.Source.left c.args.src.now) c.as_slice.result.now c.in-Ok-parse.lines.items _ c.step_session.result
-    (λ script told. c.as_slice.ensures.value ∙ c.in-Ok.ensures.script script told) c.in-Ok-parse.ensures.exact c.as_slice-in-Ok-fetch_images.ensures.value c.step_session.ensures.lines c.step_session.ensures.lines_cut
+    (λ script told. c.as_slice.ensures.value ∙ c.in-Ok.ensures.script script told) c.in-Ok-parse.ensures.exact c.as_slice-in-Ok-fetch_images.ensures.value c.step_session.ensures.lines.all c.step_session.ensures.lines.first
 
 pub returns-in-Ok-fetch_images-clause-images : goal.returns-in-Ok-fetch_images-clause-images
 returns-in-Ok-fetch_images-clause-images g c =
     let count : length c.fetch_images.new.devices.items ≡ length c.args.words.now - 1 = grind (arith, common_steps, c.in-Ok-fetch_images.ensures.count) in
     hands_back (g.S.Source.left c.args.src.now) g.B.Dev.Device.size g.B.Dev.Device.told (length c.args.words.now - 1) (g.B.Bay.left c.args.bay.now) (g.B.Bay.left c.fetch_images.new.bay) c.fetch_images.new.devices.items c.as_slice.result.now c.in-Ok-parse.lines.items _ c.step_session.result
-    (λ script told. c.as_slice.ensures.value ∙ c.in-Ok.ensures.script script told) c.in-Ok-parse.ensures.exact c.as_slice-in-Ok-fetch_images.ensures.value c.step_session.ensures.fit
-    c.in-Ok-fetch_images.ensures.left count c.step_session.ensures.images c.step_session.ensures.refused c.step_session.ensures.plays
+    (λ script told. c.as_slice.ensures.value ∙ c.in-Ok.ensures.script script told) c.in-Ok-parse.ensures.exact c.as_slice-in-Ok-fetch_images.ensures.value c.step_session.ensures.images.fit
+    c.in-Ok-fetch_images.ensures.left count c.step_session.ensures.images.kept c.step_session.ensures.refused.none c.step_session.ensures.images.played
 
 pub returns-in-Ok-fetch_images-clause-asked : goal.returns-in-Ok-fetch_images-clause-asked
 returns-in-Ok-fetch_images-clause-asked g c =

@@ -1,9 +1,12 @@
-use Rattle.std.proofs.Common.{◌∙◌, ap, Ok}
+use Rattle.std.proofs.Common.{◌∙◌, ap, Ok, rules}
 use Rattle.zs_session.proofs.Histories.{alone_after, goes_after, handed}
 use Rattle.zs_session.proofs.turns.make_turns.Goals as goal
 
-pub returns-in_err-turn-clause-went_on : goal.returns-in_err-turn-clause-went_on
-returns-in_err-turn-clause-went_on c = handed _ (goes_after _ _ _ _ c.loop-made.invariant.goes_on c.in_err-turn.ensures.went_on)
+pub returns-in_err-turn-clause-stops : goal.returns-in_err-turn-clause-stops
+returns-in_err-turn-clause-stops c = record {
+  memory = search rules;
+  went_on = handed _ (goes_after _ _ _ _ c.loop-made.invariant.goes_on c.in_err-turn.ensures.passes.went_on);
+}
 
 pub returns-in-Nothing-clause-goes_on : goal.returns-in-Nothing-clause-goes_on
 returns-in-Nothing-clause-goes_on c = alone_after _ _ _ _ c.loop-made.invariant.goes_on c.in_ok-turn.ensures.goes_on
@@ -15,5 +18,5 @@ pub loop-made-preserved : goal.loop-made-preserved
 loop-made-preserved c = record {
   up = c.in_ok-turn.ensures.up;
   goes_on = alone_after _ _ _ _ c.loop-made.invariant.goes_on c.in_ok-turn.ensures.goes_on;
-  are = c.turn.ensures.made (c.in_ok-turn.was ∙ ap Ok c.in-Made.is) _ c.loop-made.invariant.are;
+  are = c.turn.ensures.counts.made (c.in_ok-turn.was ∙ ap Ok c.in-Made.is) _ c.loop-made.invariant.are;
 }
