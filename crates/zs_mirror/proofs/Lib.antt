@@ -1,0 +1,9 @@
+mod Outcomes
+mod Devices
+mod Copies
+mod WrittenCopies
+mod ReadCopies
+mod CheckedReads
+mod Repairs
+mod Verdicts
+mod ThreeLanes

@@ -1,0 +1,4 @@
+pub mod Mirror
+pub mod Calls
+pub mod Refusals
+pub mod Steps
