@@ -2,7 +2,6 @@
 use Rattle.std.specs.Prelude.{◌≡◌, ◌≢◌, ◌<◌, ◌++◌, ℕ, true, false, not, List, [], ◌∷◌, Option, Some, map, filter, length, option_to_list, if◌then◌else◌}
 use Rattle.zs_ids.specs.declared.key.Key.{Key}
 use Rattle.zs_ids.specs.declared.block.Bp.{Bp}
-use Rattle.zs_ids.specs.declared.block.Piece.{Piece}
 use Rattle.zs_ids.specs.declared.dataset.DsId.{DsId}
 use Rattle.zs_ids.specs.declared.dataset.Name.{Name}
 use Rattle.zs_ids.specs.declared.dataset.TheConstants.DsId.{ORIGIN}

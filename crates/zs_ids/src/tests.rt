@@ -1,7 +1,12 @@
-//! Keys by the table of the blocks of a dataset, and lists in and out of a public type.
+//! Keys by the table of the blocks of a dataset, and lists and boxed values in and out of a public type.
+
+ghost use Rattle.std.specs.Prelude.{◌≡◌, ℕ, List, length, IfOk};
+ghost use Rattle.zs_ids.specs.declared.block.Piece.{Piece};
+ghost use Rattle.zs_ids.specs.declared.tests.Told.TheVariants.{Few, Many};
 
 use crate::key::parent_law;
-use crate::{Key, Seq};
+use crate::{Boxed, Key, Piece, Place, Seq};
+use std::alloc::{AllocError, Global};
 use std::test::Fail;
 
 /// A block of object 37.
@@ -77,5 +82,49 @@ fn a_list_is_made_from_a_vec_or_a_slice(rt: HostRuntime) -> Result<(), Fail> {
     let copied = Seq::from_slice(alloc, &[5, 6])?;
     let moved = Seq::from_vec(copied.into_vec());
     assert_eq!(rt; moved.as_slice(), [5, 6].as_slice());
+    Ok(())
+}
+
+/// An event whose one rare variant is large.
+#[derive(Debug, Drop)]
+enum Told {
+    Few(u8),
+    Many(Boxed<Seq<Piece>>),
+}
+
+/// The event of these pieces.
+fn many(alloc: Global, pieces: Seq<Piece>) -> Result<Told, AllocError>
+    ensures { IfOk result (λ told. told ≡ Many pieces) }
+{
+    Ok(Told::Many(Boxed::new(alloc, pieces)?))
+}
+
+/// How many pieces the event has.
+fn count(told: &Told) -> usize
+    ensures few { (n : ℕ) → told.now ≡ Few n → result ≡ n }
+    ensures many { (pieces : List Piece) → told.now ≡ Many pieces → result ≡ length pieces }
+{
+    match told {
+        Told::Few(n) => usize::from(*n),
+        Told::Many(pieces) => pieces.get().len(),
+    }
+}
+
+#[test]
+fn a_boxed_list_is_seen_as_the_list(rt: HostRuntime) -> Result<(), Fail> {
+    let alloc = rt.alloc();
+    let piece = Piece {
+        place: Place {
+            vdev: 0,
+            sector: 296,
+        },
+        birth: 4,
+    };
+    let told = many(alloc, Seq::from_slice(alloc, &[piece, piece])?)?;
+    assert_eq!(rt; count(&told), 2);
+    assert_eq!(rt; count(&Told::Few(3)), 3);
+    let boxed = Boxed::new(alloc, piece)?;
+    assert_eq!(rt; *boxed.get(), piece);
+    assert_eq!(rt; boxed.into_inner(), piece);
     Ok(())
 }
