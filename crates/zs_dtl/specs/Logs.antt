@@ -1,6 +1,7 @@
 -- What each device has missed, after the dirty time logs of OpenZFS (`vdev_dtl_dirty`, `vdev_dtl_reassess` and
 -- `vdev_dtl_excise` in vdev.c).
 use Rattle.std.specs.Prelude.{◌≡◌, ◌<◌, ◌≤◌, ◌/◌, ◌%◌, ◌^◌, ◌==◌, ℕ, Bool, true, ◌&&◌, ◌||◌, not, nat_lt, min, max, List, [], Option, Some, None, length, slice_index_or}
+use Rattle.zs_ids.specs.declared.limits.TheConstants.{LOG_SPANS}
 use Rattle.zs_ranges.specs.declared.set.Interval.{Interval}
 use Rattle.zs_ranges.specs.Set.{has_txg, IsCanonical, joined_to}
 
@@ -12,12 +13,12 @@ Logs = List (List Interval)
 abbrev pub log_of : Logs → ℕ → List Interval
 log_of logs dev = slice_index_or logs dev []
 
--- the log has the groups of the test, its two lowest intervals joined until there are at most 64
+-- the log has the groups of the test, its two lowest intervals joined until there are no more than a log may have
 pub record IsJoinedLog (test : ℕ → Bool) (log : List Interval) : Type 0 where
   pub whole : List Interval
   pub canonical : IsCanonical whole
   pub has : (t : ℕ) → has_txg whole t ≡ test t
-  pub joined : log ≡ joined_to 64 whole
+  pub joined : log ≡ joined_to LOG_SPANS whole
 
 -- a resilver excises the groups that it set out for, a scrub all
 abbrev pub is_wanted : Option (List Interval) → ℕ → Bool
@@ -50,6 +51,6 @@ bounds_united None b = b
 bounds_united (Some a) None = Some a
 bounds_united (Some a) (Some b) = Some (min a.0 b.0, max a.1 b.1)
 
--- no log has more intervals than that
+-- no log has more intervals than a log may have
 abbrev pub AreShort : Logs → Type 0
-AreShort logs = (dev : ℕ) → length (log_of logs dev) ≤ 64
+AreShort logs = (dev : ℕ) → length (log_of logs dev) ≤ LOG_SPANS

@@ -8,10 +8,8 @@ ghost use Rattle.zs_dtl.specs.Logs.{log_of, IsJoinedLog, is_excised, IsMissed, A
 use crate::steps::{cut_excised, online_bounds, united};
 use std::alloc::{AllocError, Global};
 use std::marker::Model;
+use zs_ids::limits::LOG_SPANS;
 use zs_ranges::TxgSet;
-
-/// The most intervals that a log has.
-pub const LOG_SPANS: usize = 64;
 
 /// Per device the transaction groups that it has missed. Contracts see a list with a log per device, each in the
 /// list form of a set and of at most 64 intervals.
@@ -124,7 +122,7 @@ impl Dirt {
     /// Puts a log of at most 64 intervals in place of the device's. Takes no memory.
     pub fn set(&mut self, dev: u8, log: TxgSet)
         requires dev { dev < length self.old }
-        requires short { length log ≤ 64 }
+        requires short { length log ≤ LOG_SPANS }
         ensures { self.new ≡ slice_set self.old dev log }
     {
         self.logs[usize::from(dev)] = log;

@@ -1,8 +1,8 @@
 //! Each call once, with values worked out by hand.
 
 use crate::Dirt;
-use crate::dirt::LOG_SPANS;
 use std::test::Fail;
+use zs_ids::limits::LOG_SPANS;
 use zs_ranges::TxgSet;
 
 /// A set of these intervals.

@@ -1,5 +1,7 @@
 //! Places, pieces and block pointers.
 
+use crate::limits::DEVICES;
+
 /// A block's first sector on each device of a mirror.
 #[derive(Clone, Copy, Debug, PartialEq, Eq, PartialOrd, Ord)]
 pub struct Place {
@@ -52,5 +54,5 @@ pub struct Marks {
     /// The devices that failed or were offline, a bit for each.
     pub failed: u32,
     /// Per device the journal place of its failed call, else of its last call; `u64::MAX` for none.
-    pub places: [u64; 16],
+    pub places: [u64; DEVICES],
 }

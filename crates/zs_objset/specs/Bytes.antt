@@ -3,6 +3,7 @@ use Rattle.std.specs.Prelude.{ℕ, zero, suc, ◌+◌, ◌-◌, ◌*◌, ◌^◌
 use Rattle.byteorder.specs.Endian.{big_bytes}
 use Rattle.zs_ids.specs.declared.key.Key.{Key}
 use Rattle.zs_ids.specs.declared.block.Bp.{Bp}
+use Rattle.zs_ids.specs.declared.limits.TheConstants.{SECTOR}
 use Rattle.zs_sum.specs.Pointer.{bp_bytes}
 
 -- 0 to n - 1
@@ -50,7 +51,7 @@ top_depth get n = find (λ d. is_some (found_at get (first_block n d))) (0 ∷ 1
 
 -- the exponent of a size of that many sectors, each of 2^9 bytes
 abbrev pub exponent_of : ℕ → ℕ
-exponent_of sectors = unwrap_or (find (λ e. 2 ^ e == sectors * 512) (9 ∷ 10 ∷ 11 ∷ 12 ∷ 13 ∷ 14 ∷ 15 ∷ 16 ∷ 17 ∷ [])) 0
+exponent_of sectors = unwrap_or (find (λ e. 2 ^ e == sectors * SECTOR) (9 ∷ 10 ∷ 11 ∷ 12 ∷ 13 ∷ 14 ∷ 15 ∷ 16 ∷ 17 ∷ [])) 0
 
 -- the exponent of an object's record size, which its record 0 has
 abbrev pub record_exponent : Option Bp → ℕ

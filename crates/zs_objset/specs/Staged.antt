@@ -5,6 +5,7 @@ use Rattle.std.specs.BTreeMap.{is_at}
 use Rattle.zs_ids.specs.declared.key.Key.{Key}
 use Rattle.zs_ids.specs.declared.block.Place.{Place}
 use Rattle.zs_ids.specs.declared.block.Bp.{Bp}
+use Rattle.zs_ids.specs.declared.limits.TheConstants.{SECTOR}
 use Rattle.zs_ids.specs.Key.{key_cmp}
 use Rattle.zs_sum.specs.Sum.{sha256}
 use Rattle.zs_txg.specs.declared.staged.StagedEntry.{StagedEntry}
@@ -35,9 +36,9 @@ abbrev pub staged_bytes : (Key → Option Bp) → Key → ℕ → Option ℕ →
 staged_bytes get key sectors (Some fill) = record_bytes fill sectors
 staged_bytes get key sectors None = block_bytes_of get key
 
--- how many bytes a staged block has: 512 a sector where it is a record, 4,096 where it is a block of pointers
+-- how many bytes a staged block has: those of its sectors where it is a record, 4,096 where it is a block of pointers
 abbrev pub size_of : ℕ → Option ℕ → ℕ
-size_of sectors (Some fill) = 512 * sectors
+size_of sectors (Some fill) = SECTOR * sectors
 size_of sectors None = 4096
 
 -- a staged block with its pointer and bytes

@@ -3,6 +3,7 @@
 ghost use Rattle.std.specs.Prelude.{◌≡◌, ◌<◌, ◌≤◌, ◌+◌, ◌-◌, ◌*◌, ◌^◌, ◌++◌, ◌∷◌, ◌==◌, ◌&&◌, not, length, replicate, OnOk, IfOk, IfSome, flat_map, if◌then◌else◌, Some, None};
 ghost use Rattle.byteorder.specs.Endian.{big_bytes};
 ghost use Rattle.zs_ids.specs.Blocks.{bp_at};
+ghost use Rattle.zs_ids.specs.declared.limits.TheConstants.{SECTOR};
 ghost use Rattle.zs_objset.specs.Bytes.{record_bytes, is_key, found_at, pointer_bytes, child_of, first_block, top_depth, exponent_of, record_exponent, dnode_bytes, dnode_with, dnodes_from, pointers_below, block_bytes_of, repeated, upto};
 ghost use Rattle.zs_objset.specs.Staged.{over};
 
@@ -14,7 +15,7 @@ use zs_sum::bp_write;
 /// The bytes of a record of that fill and size.
 pub fn record_of(alloc: Global, fill: u64, sectors: u16) -> Result<Vec<u8>, AllocError>
     ensures bytes { IfOk result (λ v. v.items ≡ record_bytes fill sectors) }
-    ensures size { IfOk result (λ v. length v.items ≡ 512 * sectors) }
+    ensures size { IfOk result (λ v. length v.items ≡ SECTOR * sectors) }
 {
     let sector = sector_of(alloc, fill)?;
     let record = repeat(alloc, &sector, sectors)?;
@@ -24,7 +25,7 @@ pub fn record_of(alloc: Global, fill: u64, sectors: u16) -> Result<Vec<u8>, Allo
 /// A sector of that fill.
 fn sector_of(alloc: Global, fill: u64) -> Result<Vec<u8>, AllocError>
     ensures bytes { IfOk result (λ v. v.items ≡ repeated 64 (big_bytes 8 fill)) }
-    ensures size { IfOk result (λ v. length v.items ≡ 512) }
+    ensures size { IfOk result (λ v. length v.items ≡ SECTOR) }
 {
     let word = fill.to_be_bytes();
     let sector = repeat(alloc, &word, 64)?;

@@ -1,6 +1,7 @@
 //! The scan state.
 
 ghost use Rattle.std.specs.Prelude.{◌≡◌, ◌<◌, [], IfOk};
+ghost use Rattle.zs_ids.specs.declared.limits.TheConstants.{DEVICES};
 ghost use Rattle.zs_phys.specs.Handlers.{Handled, replaced_by, dropped_from, moved, is_on, instead, exchanged, idle, Event as events};
 
 use crate::todos::{Todos, exchanged, instead};
@@ -115,7 +116,7 @@ impl Phys {
 
     /// A device, below 16, went offline.
     pub fn went_away(&mut self, dev: u8)
-        requires { dev < 16 }
+        requires { dev < DEVICES }
         ensures { Handled self.old (events.went_away dev) self.new }
     {
         self.away |= 1 << dev;

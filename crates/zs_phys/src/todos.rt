@@ -6,6 +6,7 @@ ghost use Rattle.zs_phys.specs.Handlers.{dropped, renamed, instead, exchanged};
 use std::alloc::{AllocError, Global};
 use std::marker::Model;
 use zs_ids::DsId;
+use zs_ids::limits::DATASETS;
 
 /// A dataset that the walk has still to pass.
 #[derive(Clone, Copy, Debug, PartialEq, Eq)]
@@ -25,13 +26,14 @@ pub struct Todos {
 
 impl Model for Todos {
     ghost use Rattle.std.specs.Prelude.{List, ◌≤◌, vec_len, vec_capacity};
+    ghost use Rattle.zs_ids.specs.declared.limits.TheConstants.{DATASETS};
     ghost use Rattle.zs_phys.specs.declared.todos.Todo.{Todo};
 
     ghost Value = { List Todo };
 
     ghost view = { λ t. t.entries.items };
 
-    ghost invariant = { λ t. (vec_len t.entries ≤ 255) × (255 ≤ vec_capacity t.entries) };
+    ghost invariant = { λ t. (vec_len t.entries ≤ DATASETS) × (DATASETS ≤ vec_capacity t.entries) };
 }
 
 impl Todos {
@@ -39,14 +41,14 @@ impl Todos {
     pub fn new(alloc: Global) -> Result<Self, AllocError>
         ensures { IfOk result (λ t. t ≡ []) }
     {
-        let entries = Vec::with_capacity(alloc, 255)?;
+        let entries = Vec::with_capacity(alloc, DATASETS)?;
         Ok(Todos { entries })
     }
 
     /// The queue with these entries, in their own room, which is that of every dataset of a pool. Takes no memory.
     pub fn from_vec(entries: Vec<Todo>) -> Self
-        requires few { vec_len entries ≤ 255 }
-        requires room { 255 ≤ vec_capacity entries }
+        requires few { vec_len entries ≤ DATASETS }
+        requires room { DATASETS ≤ vec_capacity entries }
         ensures { result ≡ entries.items }
     {
         Todos { entries }
@@ -55,8 +57,8 @@ impl Todos {
     /// The entries, in the room in which they stood. Takes no memory.
     pub fn into_vec(self) -> Vec<Todo>
         ensures entries { result.items ≡ self }
-        ensures few { vec_len result ≤ 255 }
-        ensures room { 255 ≤ vec_capacity result }
+        ensures few { vec_len result ≤ DATASETS }
+        ensures room { DATASETS ≤ vec_capacity result }
     {
         let Todos { entries } = self;
         entries
@@ -65,7 +67,7 @@ impl Todos {
     /// How many entries there are, at most 255.
     pub fn len(&self) -> usize
         ensures len { result ≡ length self.now }
-        ensures most { result ≤ 255 }
+        ensures most { result ≤ DATASETS }
     {
         self.entries.len()
     }
@@ -73,14 +75,14 @@ impl Todos {
     /// The entries, in order.
     pub fn as_slice(&self) -> &[Todo]
         ensures entries { result.now ≡ self.now }
-        ensures most { length result.now ≤ 255 }
+        ensures most { length result.now ≤ DATASETS }
     {
         self.entries.as_slice()
     }
 
     /// Puts an entry at the end.
     pub fn push(&mut self, entry: Todo)
-        requires { length self.old < 255 }
+        requires { length self.old < DATASETS }
         ensures { self.new ≡ self.old ++ entry ∷ [] }
     {
         self.entries.push_reserved(entry);

@@ -7,6 +7,7 @@ use Rattle.zs_ids.specs.declared.key.Key.{Key}
 use Rattle.zs_ids.specs.declared.block.Bp.{Bp}
 use Rattle.zs_ids.specs.declared.block.Place.{Place}
 use Rattle.zs_ids.specs.Key.{key_cmp, root_key, parent_of}
+use Rattle.zs_ids.specs.declared.limits.TheConstants.{OBJECTS}
 use Rattle.zs_ids.specs.Graph.{Dataset}
 use Rattle.zs_ids.specs.GraphValid.{last_birth, record_sizes}
 use Rattle.zs_plain.specs.TreeTests.{is_key}
@@ -23,7 +24,7 @@ has_form bp sectors level = bp.sectors == sectors && (bp.level == level && bp.co
 -- leaves the object may have
 abbrev pub is_object_key : ℕ → ℕ → ℕ → Key → Bool
 is_object_key span leaves level k =
-    (nat_le 1 k.object && nat_le k.object 2047) && (k.rank == 1 && (k.leaf % span == 0 && (nat_lt k.leaf leaves && k.depth + level == 3)))
+    (nat_le 1 k.object && nat_le k.object OBJECTS) && (k.rank == 1 && (k.leaf % span == 0 && (nat_lt k.leaf leaves && k.depth + level == 3)))
 
 -- the key of a block of dnodes
 abbrev pub is_dnodes_key : Key → Bool

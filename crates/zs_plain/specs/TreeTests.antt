@@ -8,6 +8,7 @@ use Rattle.zs_ids.specs.declared.dataset.DsId.{DsId}
 use Rattle.zs_ids.specs.declared.dataset.Name.{Name}
 use Rattle.zs_ids.specs.declared.dataset.TheConstants.DsId.{ORIGIN}
 use Rattle.zs_ids.specs.declared.dataset.TheConstants.Name.{EMPTY}
+use Rattle.zs_ids.specs.declared.limits.TheConstants.{DATASETS}
 use Rattle.zs_ids.specs.Graph.{Dataset, Graph, pieces_of}
 use Rattle.zs_ids.specs.GraphTree.{is_id, start_of, stands_on}
 use Rattle.zs_ids.specs.GraphValid.{Room}
@@ -53,7 +54,7 @@ is_placed g n d =
 abbrev pub is_tree : Graph → ℕ → Bool
 is_tree g n =
     (list_any (λ d. is_origin d) g && list_all (λ d. is_placed g n d) g) &&
-    (rise g && (nat_le (length g) 255 && list_all (λ a. list_all (λ b. are_named_apart a b) g) g))
+    (rise g && (nat_le (length g) DATASETS && list_all (λ a. list_all (λ b. are_named_apart a b) g) g))
 
 -- the keys are one
 abbrev pub is_key : Key → Key → Bool

@@ -3,6 +3,7 @@ use Rattle.std.specs.Prelude.{◌<◌, ◌⊎◌, ◌&&◌, not, max, ℕ, Bool,
 use Rattle.zs_ids.specs.declared.key.Key.{Key}
 use Rattle.zs_ids.specs.declared.block.Bp.{Bp}
 use Rattle.zs_ids.specs.declared.dataset.DsId.{DsId}
+use Rattle.zs_ids.specs.declared.limits.TheConstants.{DATASETS}
 use Rattle.zs_ids.specs.Blocks.{first_from}
 use Rattle.zs_ids.specs.Graph.{Graph}
 use Rattle.zs_ids.specs.GraphTree.{dataset_at}
@@ -57,4 +58,4 @@ depth_at (ats.Dataset id k) = k.depth
 
 -- more datasets are queued than a pool may have, or the bookmark is deeper than any key of the type
 abbrev pub IsTooLarge : Phys → Type 0
-IsTooLarge t = (255 < length t.todo) ⊎ (255 < depth_at t.at)
+IsTooLarge t = (DATASETS < length t.todo) ⊎ (255 < depth_at t.at)

@@ -9,6 +9,7 @@ ghost use Rattle.zs_plain.specs.BlockTests.{does_share, fits_levels, fits_object
 
 use crate::dataset::PlainDataset;
 use crate::sound::last_birth;
+use zs_ids::limits::OBJECTS;
 use zs_ids::{Bp, Key};
 
 /// Whether the key is below all of these.
@@ -56,7 +57,7 @@ fn is_object_key(span: u32, leaves: u32, level: u8, key: Key) -> bool
     requires positive { 1 ≤ span }
     ensures { result ≡ is_object_key span leaves level key }
 {
-    let object = 1 <= key.object && key.object <= 2047;
+    let object = 1 <= key.object && key.object <= OBJECTS;
     let rank = key.rank == 1;
     let first = key.leaf % span == 0;
     let below = key.leaf < leaves;

@@ -20,6 +20,7 @@ use crate::dataset::PlainDataset;
 use crate::graph::has_piece;
 use crate::tree::{children_of, created, end_of_pass};
 use std::alloc::{AllocError, Global};
+use zs_ids::limits::DATASETS;
 use zs_ids::{Bp, DsId, Key, Piece};
 use zs_phys::{At, Phys, Scope, Status, Step, Todo, Todos};
 
@@ -125,9 +126,9 @@ fn copy_of(alloc: Global, s: &Phys) -> Result<Phys, AllocError>
 /// Puts the entries at the end of the queue, where there is room for all of them.
 fn push_all(queue: &mut Todos, more: &[Todo]) -> bool
     ensures pushed { IsTrue result → queue.new ≡ queue.old ++ more.now }
-    ensures full { result ≡ false → 255 < length (queue.old ++ more.now) }
+    ensures full { result ≡ false → DATASETS < length (queue.old ++ more.now) }
 {
-    if more.len() > 255 - queue.len() {
+    if more.len() > DATASETS - queue.len() {
         return false;
     }
     for entry in more {

@@ -14,6 +14,7 @@ use crate::dataset::{PlainDataset, PlainRoom};
 use crate::graph::{has_piece, live};
 use crate::tree::{stands_on, start_of};
 use std::alloc::{AllocError, Global};
+use zs_ids::limits::DATASETS;
 use zs_ids::{Bp, DsId, Key, Name, Piece};
 
 /// Whether the names are one.
@@ -148,7 +149,7 @@ fn is_rooted(g: &[PlainDataset], n: u64) -> bool
     let origin = has_origin(g);
     let placed = are_placed(g, n);
     let rising = rise(g);
-    let few = g.len() <= 255;
+    let few = g.len() <= DATASETS;
     let named = all_named_apart(g);
     (origin && placed) && (rising && (few && named))
 }

@@ -3,6 +3,7 @@
 ghost use Rattle.std.specs.Prelude.{◌≡◌, ◌<◌, ◌≤◌, ◌+◌, ◌++◌, ℕ, map, length};
 ghost use Rattle.zs_ids.specs.GraphTree.{dataset_at, created, children_of};
 ghost use Rattle.zs_ids.specs.GraphValid.{IsInIdOrder};
+ghost use Rattle.zs_ids.specs.declared.limits.TheConstants.{DATASETS};
 ghost use Rattle.zs_phys.specs.Turn.{Comes, advanced, behind, end_of_pass, entry, left, queued_at_end, skipped};
 ghost use Rattle.zs_phys.specs.declared.step.Step.TheVariants as steps;
 ghost use Rattle.zs_walk.specs.Walking.{AreHeadsUndated, MayWalk, MeetsBlock, is_walking};
@@ -120,7 +121,7 @@ fn behind(at: At, key: Key) -> At
 fn end<G: Datasets>(graph: &G, phys: &mut Phys, id: DsId)
     requires order { IsInIdOrder (G.datasets graph.now) }
     requires heads { AreHeadsUndated (G.datasets graph.now) }
-    requires room { length phys.old.todo + length (queued_at_end (G.datasets graph.now) phys.old id) ≤ 255 }
+    requires room { length phys.old.todo + length (queued_at_end (G.datasets graph.now) phys.old id) ≤ DATASETS }
     ensures { phys.new ≡ record (left phys.old) { todo = phys.old.todo ++ queued_at_end (G.datasets graph.now) phys.old id } }
 {
     if phys.again {
@@ -147,7 +148,7 @@ fn leave(phys: &mut Phys)
 /// Puts the datasets that stand on this one at the end of the queue, each with this min.
 fn queue_children<G: Datasets>(graph: &G, id: DsId, min: u64, todo: &mut Todos)
     requires order { IsInIdOrder (G.datasets graph.now) }
-    requires room { length todo.old + length (children_of (G.datasets graph.now) id) ≤ 255 }
+    requires room { length todo.old + length (children_of (G.datasets graph.now) id) ≤ DATASETS }
     ensures { todo.new ≡ todo.old ++ map (entry min) (children_of (G.datasets graph.now) id) }
 {
     let mut last = None;
