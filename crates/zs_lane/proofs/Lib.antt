@@ -1,2 +1,3 @@
 mod Keep
 mod Set
+pub mod GoingOn

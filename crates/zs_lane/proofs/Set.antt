@@ -1,6 +1,6 @@
 -- One lane of a list is changed, and the others stay.
 use denote.Struct.Props.{props}
-use Rattle.std.proofs.Common.{◌≡◌, ◌≢◌, ℕ, zero, suc, ◌<◌, ◌≤◌, inl, inr, List, [], ◌∷◌, length, get_or, slice_set, Option, Some, option_map, Result, IfErr, OnOk, OnErr, refl, sym, ◌∙◌, ap, subst, arith, rules, Vec}
+use Rattle.std.proofs.Common.{◌≡◌, ◌≢◌, ℕ, zero, suc, ◌<◌, ◌≤◌, inl, inr, List, [], ◌∷◌, ◌++◌, append-nil, length, get_or, slice_set, Option, Some, option_map, Result, Ok, Err, IfErr, OnOk, OnErr, refl, sym, ◌∙◌, ap, subst, arith, rules, Vec}
 use Rattle.std.proofs.lemmas.Bool.{cases_eq}
 use Rattle.std.proofs.lemmas.Option.{slice_get_read}
 use Rattle.std.specs.List.{slice_get}
@@ -8,10 +8,14 @@ use Rattle.std.specs.Vec.{with_item}
 use Rattle.zs_io.specs.Crash.{Follows, NoMore, Only, Elapses}
 use Rattle.zs_io.specs.Told.{Told, BothTold, Torn, over}
 use Rattle.zs_io.specs.declared.device.Device.{Ghosts}
-use Rattle.zs_lane.specs.Children.{DeviceView, Stays, OnlyOn, Called, Unwritten, Written, of_lane, device_at}
+use Rattle.zs_lane.specs.Children.{DeviceView, Stays, OnlyOn, GoesOn, Called, Unwritten, Written, of_lane, device_at}
 use Rattle.zs_lane.specs.Journal.{Keeps}
+use Rattle.zs_ids.specs.Graph.{Has}
 use Rattle.zs_lane.specs.Lane.{LaneView, Refused, HasLaneCause}
 use Rattle.zs_lane.specs.declared.fault.LaneFault.{LaneFault}
+use Rattle.zs_lane.specs.declared.fault.LaneFault.TheVariants.{Failed, Memory}
+use Rattle.zs_lane.specs.declared.mark.Mark.{Mark}
+use Rattle.zs_lane.specs.declared.mark.Mark.TheVariants.{Failed as FailedMark}
 
 module _ {X : Type 0} where
   get-set_same : (xs : List X) (i : ℕ) (w : X) → i < length xs → slice_get (slice_set xs i w) i ≡ Some w
@@ -71,6 +75,24 @@ told_on x y P Q on told z is = subst Q (some is) (on (told x refl))
     some : Some y ≡ Some z → y ≡ z
     some e = cc
 
+-- the one mark that came
+only_one : (mark : Mark) → Has (mark ∷ []) FailedMark → mark ≡ FailedMark
+only_one mark (inl is) = is
+only_one mark (inr none) = absurd none
+
+-- by what came of a call, what its mark is and whether the count rose
+module _ {D T : Type 0} (ghosts : Ghosts D) (x y : LaneView D) where
+  goes_on : (result : Result T LaneFault) (mark : Mark) → (mark ≡ FailedMark → ⊥) → OnOk result (y.journal ≡ x.journal ++ mark ∷ []) → IfErr result (λ e. Refused e x.journal y.journal)
+      → HasLaneCause (ghosts.faults x.device) (ghosts.faults y.device) result
+      → ((o : Option (List ℕ)) → Told (Some x.journal) (λ j. Keeps o j (ghosts.told x.device)) → Told (Some y.journal) (λ j. Keeps o j (ghosts.told y.device)))
+      → GoesOn (of_lane ghosts x) (of_lane ghosts y)
+  goes_on (Ok v) mark done marked err cause lawful =
+      record { more = mark ∷ []; journal = ap (λ j. Some j) marked; lawful = lawful; later = cause.later; counted = inl cause.ok; rose = λ h. absurd (done (only_one mark h)) }
+  goes_on (Err (Failed place)) mark done marked err cause lawful =
+      record { more = FailedMark ∷ []; journal = ap (λ j. Some j) err.1; lawful = lawful; later = cause.later; counted = inr (inl refl); rose = λ h. cause.err }
+  goes_on (Err Memory) mark done marked err cause lawful =
+      record { more = []; journal = ap (λ j. Some j) (err ∙ sym (append-nil x.journal)); lawful = lawful; later = cause.later; counted = inl cause.err; rose = λ h. absurd h }
+
 -- A call makes `y` of the lane `x` that stands at this place.
 module _ {D Z T : Type 0} (ghosts : Ghosts D) (v : Vec (LaneView D) Z) (dev : ℕ) (x y : LaneView D) (within : dev < length v.items)
     (value : x ≡ get_or v.items dev x) (result : Result T LaneFault) where
@@ -100,14 +122,14 @@ module _ {D Z T : Type 0} (ghosts : Ghosts D) (v : Vec (LaneView D) Z) (dev : �
     others = λ e other. subst (λ o. Stays (old e) (device_at (of_lane ghosts) o)) (sym (get-set_other v.items dev e y other)) (stays (old e));
   }
 
-  pub called : IfErr result (λ e. Refused e x.journal y.journal) → HasLaneCause (ghosts.faults x.device) (ghosts.faults y.device) result
+  pub called : (mark : Mark) → (mark ≡ FailedMark → ⊥) → OnOk result (y.journal ≡ x.journal ++ mark ∷ []) → IfErr result (λ e. Refused e x.journal y.journal) → HasLaneCause (ghosts.faults x.device) (ghosts.faults y.device) result
       → Elapses (ghosts.moment x.device) (ghosts.moment y.device) (ghosts.left_since x.device) (ghosts.left_since y.device) (ghosts.may_leave y.device)
       → ((o : Option (List ℕ)) → Keeps o x.journal (ghosts.told x.device) → Keeps o y.journal (ghosts.told y.device)) → Called (old dev) (new dev) result
-  called err cause time keeps = at_dev (λ a b. Called a b result) (record {
+  called mark done marked err cause time keeps = at_dev (λ a b. Called a b result) (record {
     err = err;
     cause = cause;
     time = time;
-    keeps = λ o. told_on x.journal y.journal (λ j. Keeps o j (ghosts.told x.device)) (λ j. Keeps o j (ghosts.told y.device)) (keeps o);
+    goes_on = goes_on ghosts x y result mark done marked err cause (λ o. told_on x.journal y.journal (λ j. Keeps o j (ghosts.told x.device)) (λ j. Keeps o j (ghosts.told y.device)) (keeps o));
   })
 
   pub unwritten : ghosts.told y.device ≡ ghosts.told x.device → NoMore (ghosts.may_leave x.device) (ghosts.may_leave y.device) → Unwritten (old dev) (new dev)

@@ -1,9 +1,12 @@
 -- A set of devices with journals: what it tells of each of them, what a call on one of them leaves, and a list of lanes as such a set.
-use Rattle.std.specs.Prelude.{◌≡◌, ◌≢◌, ℕ, List, [], ◌∷◌, ◌++◌, Option, None, Some, option_map, Result, IfErr, OnOk, OnErr}
+use Rattle.std.specs.Prelude.{◌≡◌, ◌≢◌, ◌⊎◌, ◌≤◌, ℕ, List, [], ◌∷◌, ◌++◌, Option, None, Some, option_map, Result, IfErr, OnOk, OnErr}
+use Rattle.zs_ids.specs.Graph.{Has}
 use Rattle.zs_io.specs.Told.{Told, BothTold, Torn, over}
+use Rattle.zs_io.specs.Faults.{Rose}
 use Rattle.zs_io.specs.Crash.{Follows, NoMore, Elapses}
 use Rattle.zs_io.specs.declared.device.Device.{Ghosts}
 use Rattle.zs_lane.specs.declared.mark.Mark.{Mark}
+use Rattle.zs_lane.specs.declared.mark.Mark.TheVariants.{Failed}
 use Rattle.zs_lane.specs.declared.fault.LaneFault.{LaneFault}
 use Rattle.zs_lane.specs.Journal.{Keeps}
 use Rattle.zs_lane.specs.Lane.{LaneView, Refused, HasLaneCause}
@@ -41,13 +44,22 @@ pub record OnlyOn (dev count_old count_new : ℕ) (old new : ℕ → DeviceView)
   pub sizes : (e : ℕ) → (new e).size ≡ (old e).size
   pub others : (e : ℕ) → e ≢ dev → Stays (old e) (new e)
 
+-- What calls leave of a device, whatever came of them. Its journal goes on; one that was lawful is so still, whatever bytes the
+-- device was opened with. Its count of faults rises just where a call failed, which one of the marks that came tells.
+pub record GoesOn (old new : DeviceView) : Type 0 where
+  pub more : List Mark
+  pub journal : new.journal ≡ option_map (λ j. j ++ more) old.journal
+  pub lawful : (o : Option (List ℕ)) → Told old.journal (λ j. Keeps o j old.told) → Told new.journal (λ j. Keeps o j new.told)
+  pub later : old.faults ≤ new.faults
+  pub counted : (new.faults ≡ old.faults) ⊎ Has more Failed
+  pub rose : Has more Failed → Rose old.faults new.faults
+
 -- What each call leaves of its own device, whether it is done or refused.
 pub record Called {T : Type 0} (old new : DeviceView) (result : Result T LaneFault) : Type 0 where
   pub err : IfErr result (λ e. BothTold (Refused e) old.journal new.journal)
   pub cause : HasLaneCause old.faults new.faults result
   pub time : Elapses old.moment new.moment old.left_since new.left_since new.may_leave
-  -- a journal that was lawful is so still, whatever bytes the device was opened with
-  pub keeps : (o : Option (List ℕ)) → Told old.journal (λ j. Keeps o j old.told) → Told new.journal (λ j. Keeps o j new.told)
+  pub goes_on : GoesOn old new
 
 -- the journal has this mark more, where it is told
 abbrev pub Marked : Mark → DeviceView → DeviceView → Type 0

@@ -8,7 +8,7 @@ pub returns-clause-unwritten : goal.returns-clause-unwritten
 returns-clause-unwritten g c = unwritten g.D.Device c.args.self.now _ _ c.sync.new.self c.requires c.index_mut-lane.ensures.value c.sync.result c.sync.ensures.told c.sync.ensures.crash
 
 pub returns-clause-call : goal.returns-clause-call
-returns-clause-call g c = called g.D.Device c.args.self.now _ _ c.sync.new.self c.requires c.index_mut-lane.ensures.value c.sync.result c.sync.ensures.err c.sync.ensures.cause c.sync.ensures.time c.sync.ensures.keeps
+returns-clause-call g c = called g.D.Device c.args.self.now _ _ c.sync.new.self c.requires c.index_mut-lane.ensures.value c.sync.result _ (λ is. absurd cc) c.sync.ensures.mark c.sync.ensures.err c.sync.ensures.cause c.sync.ensures.time c.sync.ensures.keeps
 
 pub returns-clause-memory : goal.returns-clause-memory
 returns-clause-memory g c failed = unchanged g.D.Device c.args.self.now _ _ c.sync.new.self c.requires c.index_mut-lane.ensures.value c.sync.result (c.sync.ensures.memory failed)
