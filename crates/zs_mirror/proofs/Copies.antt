@@ -2,16 +2,17 @@
 use Rattle.std.proofs.Common.{◌≡◌, ◌≢◌, ℕ, ◌+◌, ◌≤◌, inl, inr, length, refl, sym, ◌∙◌, subst, arith}
 use Rattle.std.proofs.lemmas.Bool.{cases_eq}
 use Rattle.zs_io.specs.Told.{Told}
-use Rattle.zs_lane.specs.Children.{DeviceView, Stays, OnlyOn}
-use Rattle.zs_mirror.specs.Mirror.{StaysLawful, IsOther, Leaves}
-use Rattle.zs_mirror.proofs.Devices.{stays, stays_on, lawful_stays, lawful_on}
+use Rattle.zs_lane.specs.Children.{DeviceView, Stays, OnlyOn, GoesOn}
+use Rattle.zs_mirror.specs.Mirror.{IsOther, Leaves}
+use Rattle.zs_lane.proofs.GoingOn.{goes_on_stays, goes_on_none, goes_on_twice}
+use Rattle.zs_mirror.proofs.Devices.{stays, stays_on}
 
 pub leaves_none : (first n : ℕ) (old : ℕ → DeviceView) → Leaves first 0 n n old old
 leaves_none first n old = record {
   count = refl;
   sizes = λ e. refl;
   others = λ e other. stays (old e);
-  lawful = λ e o keeps. keeps;
+  goes_on = λ e. goes_on_none (old e);
 }
 
 pub leaves_wide : (first i width n m : ℕ) (old new : ℕ → DeviceView) → i ≤ width → Leaves first i n m old new → Leaves first width n m old new
@@ -19,7 +20,7 @@ leaves_wide first i width n m old new le leaves = record {
   count = leaves.count;
   sizes = leaves.sizes;
   others = λ e other. leaves.others e (λ k lt. other k (omega (arith, lt, le)));
-  lawful = leaves.lawful;
+  goes_on = leaves.goes_on;
 }
 
 -- a copy further on is none of the first ones
@@ -33,14 +34,14 @@ module _ (first i n m l : ℕ) (old mid new : ℕ → DeviceView) (before : Leav
   next_other : (e : ℕ) → IsOther first (i + 1) e → IsOther first i e
   next_other e other k lt = other k (omega (arith, lt))
 
-  pub leaves_next : StaysLawful (mid (first + i)) (new (first + i)) → Leaves first (i + 1) n l old new
-  leaves_next lawful = record {
+  pub leaves_next : GoesOn (mid (first + i)) (new (first + i)) → Leaves first (i + 1) n l old new
+  leaves_next goes_on = record {
     count = only.count ∙ before.count;
     sizes = λ e. only.sizes e ∙ before.sizes e;
     others = λ e other. stays_on (old e) (mid e) (new e) (before.others e (next_other e other)) (only.others e (other i (omega arith)));
-    lawful = λ e. elim (cases_eq e (first + i)) [
-      | inl here ↦ subst (λ (x : ℕ). StaysLawful (old x) (new x)) (sym here) (lawful_on (old (first + i)) (mid (first + i)) (new (first + i)) (before.lawful (first + i)) lawful)
-      | inr other ↦ lawful_on (old e) (mid e) (new e) (before.lawful e) (lawful_stays (mid e) (new e) (only.others e other))
+    goes_on = λ e. elim (cases_eq e (first + i)) [
+      | inl here ↦ subst (λ (x : ℕ). GoesOn (old x) (new x)) (sym here) (goes_on_twice (old (first + i)) (mid (first + i)) (new (first + i)) (before.goes_on (first + i)) goes_on)
+      | inr other ↦ goes_on_twice (old e) (mid e) (new e) (before.goes_on e) (goes_on_stays (mid e) (new e) (only.others e other))
     ];
   }
 
@@ -66,5 +67,5 @@ leaves_twice first width n m l old mid new one two = record {
   count = two.count ∙ one.count;
   sizes = λ e. two.sizes e ∙ one.sizes e;
   others = λ e other. stays_on (old e) (mid e) (new e) (one.others e other) (two.others e other);
-  lawful = λ e. lawful_on (old e) (mid e) (new e) (one.lawful e) (two.lawful e);
+  goes_on = λ e. goes_on_twice (old e) (mid e) (new e) (one.goes_on e) (two.goes_on e);
 }

@@ -1,13 +1,12 @@
 -- A device that stays, before and after calls that tell of it.
-use Rattle.std.proofs.Common.{◌≡◌, ℕ, ◌+◌, ◌≤◌, inl, inr, Bool, true, false, List, ◌++◌, length, Option, None, Some, option_map, append_assoc, length-append, refl, sym, ◌∙◌, ap, subst, arith}
+use Rattle.std.proofs.Common.{◌≡◌, ℕ, ◌+◌, ◌≤◌, inl, inr, Bool, true, false, List, ◌++◌, length, Option, None, Some, option_map, ◌∷◌, [], append_assoc, length-append, refl, sym, ◌∙◌, ap, subst, arith}
 use Rattle.zs_io.specs.Told.{Told, BothTold, Torn, over}
 use Rattle.zs_io.specs.Crash.{Follows, NoMore, Elapses}
 use Rattle.zs_io.specs.Faults.{Rose}
 use Rattle.zs_io.specs.Ranges.{over_torn}
 use Rattle.zs_lane.specs.declared.mark.Mark.{Mark}
 use Rattle.zs_lane.specs.Children.{DeviceView, Stays, Unwritten}
-use Rattle.zs_lane.specs.Journal.{Keeps}
-use Rattle.zs_mirror.specs.Mirror.{Untouched, StaysLawful, Change, Tells, Reaches, Crashes, Counts, Went, Uncalled, Touched, IsDurable}
+use Rattle.zs_mirror.specs.Mirror.{Untouched, Change, Tells, Reaches, Crashes, Counts, Went, Uncalled, Touched, IsDurable}
 use Rattle.zs_mirror.specs.Mirror.Change.{Kept, Put, Opened}
 
 pub stays : (d : DeviceView) → Stays d d
@@ -33,12 +32,6 @@ stays_on a b c first then = record {
   since_no_more = λ t x left. first.since_no_more t x (then.since_no_more t x left);
   since_no_less = λ t x left. then.since_no_less t x (first.since_no_less t x left);
 }
-
-pub lawful_stays : (a b : DeviceView) → Stays a b → StaysLawful a b
-lawful_stays a b same o keeps j is = subst (λ (t : Option (List ℕ)). Keeps o j t) (sym same.told) (keeps j (sym same.journal ∙ is))
-
-pub lawful_on : (a b c : DeviceView) → StaysLawful a b → StaysLawful b c → StaysLawful a c
-lawful_on a b c first then o keeps = then o (first o keeps)
 
 tells_between : (change : Change) (a b c d : Option (List ℕ)) → b ≡ a → Tells change b c → d ≡ c → Tells change a d
 tells_between Kept a b c d first tells then = then ∙ tells ∙ first
@@ -202,3 +195,26 @@ durable_stays a b durable same x is c left = durable x (sym same.told ∙ is) c 
 
 pub untouched_twice : (a b c : DeviceView) → Untouched a b → Untouched b c → Untouched a c
 untouched_twice a b c one two = record { told = two.told ∙ one.told; crash = crashes_then Kept a b c one.crash two.crash }
+
+-- calls, and then others that write nothing
+pub went_then : (change : Change) (first then : List Mark) (failed : Bool) (place last : ℕ) (a b c : DeviceView) → Went change first false place a b
+    → Went Kept then failed last b c → Went change (first ++ then) failed last a c
+went_then change first then failed place last a b c one two = record {
+  journal = gained_twice a.journal b.journal c.journal first then one.journal two.journal;
+  last = λ j is. omega (arith, two.last (j ++ first) (one.journal ∙ ap (option_map (λ x. x ++ first)) is), length-append j first, length-append first then);
+  told = tells_between change a.told a.told b.told c.told refl one.told two.told;
+  crash = crashes_then change a b c one.crash two.crash;
+  faults = counts_between failed a.faults b.faults c.faults c.faults one.faults two.faults refl;
+}
+
+-- one write that was done
+pub went_written : (at : ℕ) (bytes : List ℕ) (mark : Mark) (place : ℕ) (a b : DeviceView) → b.journal ≡ option_map (λ j. j ++ mark ∷ []) a.journal
+    → Told a.journal (λ j. place ≡ length j) → b.told ≡ option_map (over at bytes) a.told → Elapses a.moment b.moment a.left_since b.left_since b.may_leave
+    → Follows (Torn at bytes) a.may_leave b.may_leave → b.faults ≡ a.faults → Went (Put at bytes) (mark ∷ []) false place a b
+went_written at bytes mark place a b journal last told time crash faults = record {
+  journal = journal;
+  last = λ j is. omega (arith, last j is);
+  told = told;
+  crash = crashes_of (Put at bytes) a b time crash;
+  faults = faults;
+}

@@ -7,11 +7,23 @@ use Rattle.zs_lane.specs.declared.mark.Mark.TheVariants.{Wrote, Synced, Failed}
 use Rattle.zs_lane.specs.Children.{DeviceView, Stays, OnlyOn}
 use Rattle.zs_ledger.specs.declared.entry.CopyResult.{CopyResult}
 use Rattle.zs_ledger.specs.declared.entry.CopyResult.TheVariants.{Missing, Good, Rewritten, Bad, Fault, Absent}
-use Rattle.zs_mirror.specs.Mirror.{nowhere, Leaves, Touched}
+use Rattle.zs_mirror.specs.Mirror.{nowhere, Went, Leaves, Touched}
 use Rattle.zs_mirror.specs.Mirror.Change.{Put, Opened}
-use Rattle.zs_mirror.specs.Steps.{WasRewritten, WasRepaired, AreRepaired}
-use Rattle.zs_mirror.proofs.Devices.{stays, stays_on, went_between, stays_touched, put_touched, opened_touched, durable_stays, touched_after, unwritten_stays}
+use Rattle.zs_mirror.specs.Steps.{WasSynced, WasRewritten, WasRepaired, AreRepaired}
+use Rattle.zs_mirror.proofs.Devices.{stays, stays_on, went_between, went_then, stays_touched, put_touched, opened_touched, durable_stays, touched_after, unwritten_stays}
 use Rattle.zs_mirror.proofs.Copies.{untouched, left_alone}
+
+-- a write that was done, and then a sync
+pub synced_rewrite : (copy : CopyResult) (place first at len : ℕ) (sum good : List ℕ) (a b c : DeviceView) → Went (Put at good) (Wrote at len sum ∷ []) false first a b
+    → WasSynced copy place b c → WasRewritten copy place at len sum good a c
+synced_rewrite Rewritten place first at len sum good a b c write sync =
+    (went_then (Put at good) (Wrote at len sum ∷ []) (Synced ∷ []) false first place a b c write sync.0, sync.1)
+synced_rewrite Fault place first at len sum good a b c write sync =
+    inr (went_then (Put at good) (Wrote at len sum ∷ []) (Failed ∷ []) true first place a b c write sync)
+synced_rewrite Missing place first at len sum good a b c write sync = absurd sync
+synced_rewrite Good place first at len sum good a b c write sync = absurd sync
+synced_rewrite Bad place first at len sum good a b c write sync = absurd sync
+synced_rewrite Absent place first at len sum good a b c write sync = absurd sync
 
 rewritten_between : (copy : CopyResult) (place at len : ℕ) (sum good : List ℕ) (a b c d : DeviceView) → Stays a b → WasRewritten copy place at len sum good b c → Stays c d
     → WasRewritten copy place at len sum good a d

@@ -3,12 +3,12 @@ use Rattle.std.specs.Prelude.{◌≡◌, ◌≢◌, ◌⊎◌, ◌==◌, ◌-◌
 use Rattle.std.specs.Int.{bit_at}
 use Rattle.zs_ids.specs.declared.block.Item.{Item}
 use Rattle.zs_ids.specs.declared.block.Place.{Place}
+use Rattle.zs_ids.specs.declared.limits.TheConstants.{BLOCK_SECTORS, DEVICES, SECTOR, WIDTH}
 use Rattle.zs_io.specs.Told.{Told, BothTold, Torn, over}
 use Rattle.zs_io.specs.Crash.{Only}
 use Rattle.zs_io.specs.Faults.{Rose}
 use Rattle.zs_lane.specs.declared.mark.Mark.{Mark}
-use Rattle.zs_lane.specs.Children.{DeviceView, Stays}
-use Rattle.zs_lane.specs.Journal.{Keeps}
+use Rattle.zs_lane.specs.Children.{DeviceView, Stays, GoesOn}
 
 -- no place in a journal
 abbrev pub nowhere : ℕ
@@ -16,11 +16,11 @@ nowhere = 2 ^ 64 - 1
 
 -- the first byte of a block's copies
 abbrev pub start_of : Place → ℕ
-start_of place = 512 * place.sector
+start_of place = SECTOR * place.sector
 
--- the bytes of an item, in sectors of 512
+-- how many bytes an item has
 abbrev pub size_of : Item → ℕ
-size_of item = 512 * item.sectors
+size_of item = SECTOR * item.sectors
 
 -- the first device of a mirror
 abbrev pub first_of : ℕ → ℕ → ℕ
@@ -32,32 +32,28 @@ has_bit mask dev = bit_at mask dev == 1
 
 -- A block of that many bytes lies on each device of its mirror, and these are in the set.
 pub record IsMirror (count width : ℕ) (place : Place) (len : ℕ) (devices : ℕ → DeviceView) : Type 0 where
-  pub most : count ≤ 16
+  pub most : count ≤ DEVICES
   pub some : 1 ≤ width
-  pub few : width ≤ 4
+  pub few : width ≤ WIDTH
   -- the devices of mirror v are v * width, v * width + 1 and so on
   pub within : first_of place.vdev width + width ≤ count
   pub sectors : ℕ
-  pub whole : len ≡ 512 * sectors
+  pub whole : len ≡ SECTOR * sectors
   pub not_empty : 1 ≤ sectors
-  pub greatest : sectors ≤ 256
+  pub greatest : sectors ≤ BLOCK_SECTORS
   pub fits : (k : ℕ) → k < width → start_of place + len ≤ (devices (first_of place.vdev width + k)).size
-
--- a journal that was lawful is so still, whatever bytes the device was opened with
-abbrev pub StaysLawful : DeviceView → DeviceView → Type 0
-StaysLawful old new = (o : Option (List ℕ)) → Told old.journal (λ j. Keeps o j old.told) → Told new.journal (λ j. Keeps o j new.told)
 
 -- the device holds none of the first copies of the mirror
 abbrev pub IsOther : ℕ → ℕ → ℕ → Type 0
 IsOther first copies dev = (k : ℕ) → k < copies → dev ≢ first + k
 
 -- What calls on the first copies leave of the set: the number of devices, every size, and the devices that hold none
--- of them. A lawful journal stays lawful.
+-- of them. Each journal goes on, a lawful one lawfully, and a count of faults rises only where a mark tells of it.
 pub record Leaves (first copies count_old count_new : ℕ) (old new : ℕ → DeviceView) : Type 0 where
   pub count : count_new ≡ count_old
   pub sizes : (e : ℕ) → (new e).size ≡ (old e).size
   pub others : (e : ℕ) → IsOther first copies e → Stays (old e) (new e)
-  pub lawful : (e : ℕ) → StaysLawful (old e) (new e)
+  pub goes_on : (e : ℕ) → GoesOn (old e) (new e)
 
 -- What calls did to the bytes of a device: nothing, a write of these from there on, or such a write that failed.
 pub data Change : Type 0 where

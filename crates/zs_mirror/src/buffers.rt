@@ -1,10 +1,9 @@
 // The two buffers of a check.
 ghost use Rattle.std.specs.Prelude.{◌≡◌, ◌≤◌, length, vec_len};
+ghost use Rattle.zs_ids.specs.declared.limits.TheConstants.{BLOCK_BYTES};
 
 use std::alloc::{AllocError, Global};
-
-/// The bytes of the greatest block.
-const MOST: usize = 131_072;
+use zs_ids::limits::BLOCK_BYTES;
 
 /// Two buffers of 131,072 bytes each, the size of the greatest block. Make them once, and use them for all checks.
 #[derive(Drop)]
@@ -13,15 +12,15 @@ pub struct Buffers {
     pub(crate) good: Vec<u8>,
     // the bytes of the copy that was read last
     pub(crate) read: Vec<u8>,
-    ghost good_long: { vec_len good ≡ 131072 },
-    ghost read_long: { vec_len read ≡ 131072 },
+    ghost good_long: { vec_len good ≡ BLOCK_BYTES },
+    ghost read_long: { vec_len read ≡ BLOCK_BYTES },
 }
 
 impl Buffers {
     /// New buffers. Fails where memory is wanting.
     pub fn new(alloc: Global) -> Result<Self, AllocError> {
-        let good = vec![in alloc; 0; MOST]?;
-        let read = vec![in alloc; 0; MOST]?;
+        let good = vec![in alloc; 0; BLOCK_BYTES]?;
+        let read = vec![in alloc; 0; BLOCK_BYTES]?;
         Ok(Buffers { good, read })
     }
 }

@@ -1,11 +1,12 @@
 // Checking the copies of a block, and repairing those that are bad.
 ghost use Rattle.std.specs.Prelude.{◌≡◌, ◌≢◌, ◌≤◌, ◌<◌, ◌+◌, ◌*◌, ◌∷◌, [], ℕ, true, false, length, IfOk, OnOk, IfErr, OnErr, slice_index_or, vec_len};
 ghost use Rattle.std.specs.List.{list_any};
+ghost use Rattle.zs_ids.specs.declared.limits.TheConstants.{DEVICES, WIDTH};
 ghost use Rattle.zs_sum.specs.Sum.{sha256};
 ghost use Rattle.zs_ledger.specs.declared.entry.CopyResult.TheVariants.{Missing, Good, Rewritten, Bad, Fault};
 ghost use Rattle.zs_lane.specs.declared.mark.Mark.TheVariants.{Wrote, Synced, Failed};
-ghost use Rattle.zs_lane.specs.Children.{Stays, OnlyOn};
-ghost use Rattle.zs_mirror.specs.Mirror.{Untouched, IsMirror, StaysLawful, Leaves, Touched, first_of, start_of, size_of, has_bit};
+ghost use Rattle.zs_lane.specs.Children.{Stays, OnlyOn, GoesOn};
+ghost use Rattle.zs_mirror.specs.Mirror.{Untouched, IsMirror, Leaves, Touched, first_of, start_of, size_of, has_bit};
 ghost use Rattle.zs_mirror.specs.Calls.{WasRead, AreChecked, IsChecked, MayBeRewritten, IsEntryOf};
 ghost use Rattle.zs_mirror.specs.Steps.{AreRead, WasSynced, WasRewritten, WasRepaired, AreRepaired, is_good};
 
@@ -14,6 +15,7 @@ use crate::place::{first_of, start_of};
 use crate::read::{Seen, is_good, read_copy};
 use std::alloc::AllocError;
 use zs_ids::Item;
+use zs_ids::limits::SECTOR;
 use zs_lane::{Children, LaneFault};
 use zs_ledger::{CopyResult, Entry};
 
@@ -35,7 +37,7 @@ fn keep_copy<C: Children>(
     buf: &mut [u8],
 ) -> Result<Seen, AllocError>
     requires dev { dev < C.count set.old }
-    requires few { dev < 16 }
+    requires few { dev < DEVICES }
     requires range { at + length buf.old ≤ (C.device set.old dev).size }
     requires size { length good.old ≡ length buf.old }
     ensures read { IfOk result (λ seen. WasRead (has_bit online dev) seen.copy at (length buf.old) sum.now seen.place
@@ -44,7 +46,7 @@ fn keep_copy<C: Children>(
     ensures kept { IfOk result (λ seen. seen.copy ≢ Good → good.new ≡ good.old) }
     ensures memory { OnErr result (Stays (C.device set.old dev) (C.device set.new dev)) }
     ensures unwritten { Untouched (C.device set.old dev) (C.device set.new dev) }
-    ensures lawful { StaysLawful (C.device set.old dev) (C.device set.new dev) }
+    ensures goes_on { GoesOn (C.device set.old dev) (C.device set.new dev) }
     ensures only { OnlyOn dev (C.count set.old) (C.count set.new) (C.device set.old) (C.device set.new) }
 {
     let seen = read_copy(set, dev, online, at, sum, buf)?;
@@ -65,7 +67,7 @@ fn read_copies<C: Children>(
     good: &mut [u8],
     buf: &mut [u8],
 ) -> Result<Copies, AllocError>
-    requires few { (width ≤ 4) × (C.count set.old ≤ 16) }
+    requires few { (width ≤ WIDTH) × (C.count set.old ≤ DEVICES) }
     requires within { first + width ≤ C.count set.old }
     requires fits { (k : ℕ) → k < width → at + length buf.old ≤ (C.device set.old (first + k)).size }
     requires size { length good.old ≡ length buf.old }
@@ -98,7 +100,7 @@ fn sync_copy<C: Children>(set: &mut C, dev: u8) -> Result<Seen, AllocError>
     requires { dev < C.count set.old }
     ensures synced { IfOk result (λ seen. WasSynced seen.copy seen.place (C.device set.old dev) (C.device set.new dev)) }
     ensures memory { OnErr result (Stays (C.device set.old dev) (C.device set.new dev)) }
-    ensures lawful { StaysLawful (C.device set.old dev) (C.device set.new dev) }
+    ensures goes_on { GoesOn (C.device set.old dev) (C.device set.new dev) }
     ensures only { OnlyOn dev (C.count set.old) (C.count set.new) (C.device set.old) (C.device set.new) }
 {
     match set.sync(dev) {
@@ -129,7 +131,7 @@ fn rewrite_copy<C: Children>(
     ensures rewritten { IfOk result (λ seen. WasRewritten seen.copy seen.place at (length good.now) sum.now good.now
         (C.device set.old dev) (C.device set.new dev)) }
     ensures memory { OnErr result (Touched at good.now (C.device set.old dev) (C.device set.new dev)) }
-    ensures lawful { StaysLawful (C.device set.old dev) (C.device set.new dev) }
+    ensures goes_on { GoesOn (C.device set.old dev) (C.device set.new dev) }
     ensures only { OnlyOn dev (C.count set.old) (C.count set.new) (C.device set.old) (C.device set.new) }
 {
     match set.write_summed(dev, at, good, sum) {
@@ -160,7 +162,7 @@ fn repair_copy<C: Children>(
     ensures repaired { IfOk result (λ now. WasRepaired seen.copy seen.place now.copy now.place at (length good.now) sum.now good.now
         (C.device set.old dev) (C.device set.new dev)) }
     ensures memory { OnErr result (Touched at good.now (C.device set.old dev) (C.device set.new dev)) }
-    ensures lawful { StaysLawful (C.device set.old dev) (C.device set.new dev) }
+    ensures goes_on { GoesOn (C.device set.old dev) (C.device set.new dev) }
     ensures only { OnlyOn dev (C.count set.old) (C.count set.new) (C.device set.old) (C.device set.new) }
 {
     match seen.copy {
@@ -186,7 +188,7 @@ fn repair_copies<C: Children>(
     good: &[u8],
     copies: Copies,
 ) -> Result<Copies, AllocError>
-    requires few { (width ≤ 4) × (C.count set.old ≤ 16) }
+    requires few { (width ≤ WIDTH) × (C.count set.old ≤ DEVICES) }
     requires within { first + width ≤ C.count set.old }
     requires fits { (k : ℕ) → k < width → at + length good.now ≤ (C.device set.old (first + k)).size }
     requires sum { sum.now ≡ sha256 good.now }
@@ -223,7 +225,7 @@ fn check_copies<C: Children>(
     good: &mut [u8],
     buf: &mut [u8],
 ) -> Result<Copies, AllocError>
-    requires few { (width ≤ 4) × (C.count set.old ≤ 16) }
+    requires few { (width ≤ WIDTH) × (C.count set.old ≤ DEVICES) }
     requires within { first + width ≤ C.count set.old }
     requires fits { (k : ℕ) → k < width → at + length buf.old ≤ (C.device set.old (first + k)).size }
     requires size { length good.old ≡ length buf.old }
@@ -253,7 +255,7 @@ fn check_within<C: Children>(
     good: &mut Vec<u8>,
     buf: &mut Vec<u8>,
 ) -> Result<Copies, AllocError>
-    requires few { (width ≤ 4) × (C.count set.old ≤ 16) }
+    requires few { (width ≤ WIDTH) × (C.count set.old ≤ DEVICES) }
     requires within { first + width ≤ C.count set.old }
     requires fits { (k : ℕ) → k < width → at + size ≤ (C.device set.old (first + k)).size }
     requires size { (size ≤ vec_len good.old) × (size ≤ vec_len buf.old) }
@@ -288,7 +290,7 @@ pub fn check<C: Children>(
 {
     let first = first_of(item.piece.place.vdev, width);
     let at = start_of(item.piece.place);
-    let size = 512 * usize::from(item.sectors);
+    let size = SECTOR as usize * usize::from(item.sectors);
     let copies = check_within(
         set,
         first,

@@ -29,7 +29,7 @@ pub use buffers::Buffers;
 pub use checks::check;
 pub use fault::ReadFault;
 pub use read::read_any;
-pub use write::write_all;
+pub use write::{write_all, write_block};
 
 #[cfg(test)]
 mod tests;

@@ -4,10 +4,11 @@ ghost use Rattle.std.specs.Int.{bit_at};
 ghost use Rattle.zs_mirror.specs.Mirror.{first_of, start_of, has_bit};
 
 use zs_ids::Place;
+use zs_ids::limits::{DEVICES, SECTOR};
 
 /// The first device of a mirror.
 pub(crate) fn first_of(vdev: u8, width: u8) -> u8
-    requires { first_of vdev width ≤ 16 }
+    requires { first_of vdev width ≤ DEVICES }
     ensures { result ≡ first_of vdev width }
 {
     vdev * width
@@ -17,7 +18,7 @@ pub(crate) fn first_of(vdev: u8, width: u8) -> u8
 pub(crate) fn start_of(place: Place) -> u64
     ensures { result ≡ start_of place }
 {
-    512 * u64::from(place.sector)
+    SECTOR * u64::from(place.sector)
 }
 
 /// Whether the mask has the device's bit.

@@ -1,9 +1,10 @@
 // Reading a copy of a block, and reading one that is good.
 ghost use Rattle.std.specs.Prelude.{◌≡◌, ◌≢◌, ◌≤◌, ◌<◌, ◌+◌, ◌*◌, ℕ, true, false, length, IfOk, OnOk, IfErr, OnErr};
+ghost use Rattle.zs_ids.specs.declared.limits.TheConstants.{DEVICES};
 ghost use Rattle.zs_sum.specs.Sum.{sha256};
 ghost use Rattle.zs_ledger.specs.declared.entry.CopyResult.TheVariants.{Good};
-ghost use Rattle.zs_lane.specs.Children.{Stays, OnlyOn};
-ghost use Rattle.zs_mirror.specs.Mirror.{Untouched, IsMirror, StaysLawful, Leaves, first_of, start_of, size_of, has_bit};
+ghost use Rattle.zs_lane.specs.Children.{Stays, OnlyOn, GoesOn};
+ghost use Rattle.zs_mirror.specs.Mirror.{Untouched, IsMirror, Leaves, first_of, start_of, size_of, has_bit};
 ghost use Rattle.zs_mirror.specs.Calls.{WasRead, IsFound};
 ghost use Rattle.zs_mirror.specs.Refusals.{SaysLost};
 
@@ -42,14 +43,14 @@ pub(crate) fn read_copy<C: Children>(
     buf: &mut [u8],
 ) -> Result<Seen, AllocError>
     requires dev { dev < C.count set.old }
-    requires few { dev < 16 }
+    requires few { dev < DEVICES }
     requires range { at + length buf.old ≤ (C.device set.old dev).size }
     ensures read { IfOk result (λ seen. WasRead (has_bit online dev) seen.copy at (length buf.old) sum.now seen.place
         (C.device set.old dev) (C.device set.new dev)) }
     ensures good { IfOk result (λ seen. seen.copy ≡ Good → sha256 buf.new ≡ sum.now) }
     ensures memory { OnErr result (Stays (C.device set.old dev) (C.device set.new dev)) }
     ensures unwritten { Untouched (C.device set.old dev) (C.device set.new dev) }
-    ensures lawful { StaysLawful (C.device set.old dev) (C.device set.new dev) }
+    ensures goes_on { GoesOn (C.device set.old dev) (C.device set.new dev) }
     ensures only { OnlyOn dev (C.count set.old) (C.count set.new) (C.device set.old) (C.device set.new) }
 {
     if !has_bit(online, dev) {

@@ -14,13 +14,13 @@ returns-in_err-now-clause-memory g c = if_refused c.from_residual.result
 pub returns-in_err-now-clause-leaves : goal.returns-in_err-now-clause-leaves
 returns-in_err-now-clause-leaves g c =
     leaves_wide c.args.first (c.loop-i.i + 1) c.args.width _ _ _ _ (omega (arith, c.loop-i-test.true))
-    (leaves_next c.args.first c.loop-i.i _ _ _ _ _ _ c.loop-i.invariant.leaves c.repair_copy.ensures.only c.repair_copy.ensures.lawful)
+    (leaves_next c.args.first c.loop-i.i _ _ _ _ _ _ c.loop-i.invariant.leaves c.repair_copy.ensures.only c.repair_copy.ensures.goes_on)
 
 pub loop-i-preserved : goal.loop-i-preserved
 loop-i-preserved g c = record {
   letters = length-set c.loop-i.letters c.from-index.result c.in_ok-now.now.copy ∙ c.loop-i.invariant.letters;
   marks = length-set c.loop-i.marks c.from-index.result c.in_ok-now.now.place ∙ c.loop-i.invariant.marks;
-  leaves = leaves_next c.args.first c.loop-i.i _ _ _ _ _ _ c.loop-i.invariant.leaves c.repair_copy.ensures.only c.repair_copy.ensures.lawful;
+  leaves = leaves_next c.args.first c.loop-i.i _ _ _ _ _ _ c.loop-i.invariant.leaves c.repair_copy.ensures.only c.repair_copy.ensures.goes_on;
   repaired = rw (c.from-index.ensures)
       (repaired_next c.args.first c.loop-i.i c.args.at (length c.args.good.now) c.args.sum.now c.args.good.now c.args.copies.letters c.args.copies.marks c.loop-i.letters c.loop-i.marks
       _ _ _ _ _ _ c.loop-i.invariant.repaired c.loop-i.invariant.leaves c.repair_copy.ensures.only

@@ -9,13 +9,13 @@ pub returns-in_err-seen-clause-leaves : goal.returns-in_err-seen-clause-leaves
 returns-in_err-seen-clause-leaves g c =
     rw (sym c.first_of-first.ensures)
     (leaves_wide c.first_of-first.result (c.loop-i.i + 1) c.args.width _ _ _ _ (omega (arith, c.loop-i-test.true))
-    (leaves_next c.first_of-first.result c.loop-i.i _ _ _ _ _ _ c.loop-i.invariant.leaves c.read_copy.ensures.only c.read_copy.ensures.lawful))
+    (leaves_next c.first_of-first.result c.loop-i.i _ _ _ _ _ _ c.loop-i.invariant.leaves c.read_copy.ensures.only c.read_copy.ensures.goes_on))
 
 pub returns-then-is_good-clause-leaves : goal.returns-then-is_good-clause-leaves
 returns-then-is_good-clause-leaves g c =
     rw (sym c.first_of-first.ensures)
     (leaves_wide c.first_of-first.result (c.loop-i.i + 1) c.args.width _ _ _ _ (omega (arith, c.loop-i-test.true))
-    (leaves_next c.first_of-first.result c.loop-i.i _ _ _ _ _ _ c.loop-i.invariant.leaves c.read_copy.ensures.only c.read_copy.ensures.lawful))
+    (leaves_next c.first_of-first.result c.loop-i.i _ _ _ _ _ _ c.loop-i.invariant.leaves c.read_copy.ensures.only c.read_copy.ensures.goes_on))
 
 pub returns-then-is_good-clause-found : goal.returns-then-is_good-clause-found
 returns-then-is_good-clause-found g c =
@@ -30,7 +30,7 @@ returns-then-is_good-clause-found g c =
 pub loop-i-preserved : goal.loop-i-preserved
 loop-i-preserved g c = record {
   long = length-set c.loop-i.places c.from.result c.in_ok-seen.seen.place ∙ c.loop-i.invariant.long;
-  leaves = leaves_next c.first_of-first.result c.loop-i.i _ _ _ _ _ _ c.loop-i.invariant.leaves c.read_copy.ensures.only c.read_copy.ensures.lawful;
+  leaves = leaves_next c.first_of-first.result c.loop-i.i _ _ _ _ _ _ c.loop-i.invariant.leaves c.read_copy.ensures.only c.read_copy.ensures.goes_on;
   lost = rw (c.from.ensures)
       (lost_next c.args.online c.first_of-first.result c.loop-i.i c.start_of-at.result (length c.args.buf.now) c.args.item.now.sum c.loop-i.places _ _ _ _ _
       c.in_ok-seen.seen.place c.in_ok-seen.seen.copy _ (omega (arith, c.requires.mirror.few, c.loop-i-test.true, c.loop-i.invariant.long))

@@ -1,7 +1,7 @@
 use Rattle.std.proofs.Common.{◌≡◌, length}
 use Rattle.zs_mirror.specs.Mirror.{Leaves}
 use Rattle.zs_mirror.specs.Calls.{AreWritten}
-use Rattle.zs_mirror.proofs.write.write_all.Given as goal
+use Rattle.zs_mirror.proofs.write.write_block.Given as goal
 
 abbrev pub invariant-loop-i : goal.invariant-loop-i
 invariant-loop-i g l = record {
