@@ -1,4 +1,4 @@
-//! The calls of dirty logs and of devices with a journal.
+//! The calls of dirty logs, of sums and of devices with a journal.
 
 ghost use Rattle.std.specs.Prelude.{◌≡◌, ◌≤◌, ◌*◌};
 
@@ -9,6 +9,7 @@ use zs_dtl::Dirt;
 use zs_io::SureDevice;
 use zs_lane::Lane;
 use zs_ranges::TxgSet;
+use zs_sum::sum;
 
 /// Logs to which n groups are added, each second one, so that the two lowest intervals are joined again and again;
 /// and n excisions of one group.
@@ -56,4 +57,20 @@ pub fn lane_rows(rt: &HostRuntime, n: u64, rows: &mut Vec<Row>) -> Result<(), Fa
         }
     }
     put(rt, rows, "zs_lane read 512", n, start)
+}
+
+/// Sums of the greatest blocks, one for each 64 of n: the yardstick of a scrub, which costs little more than a sum of each
+/// copy.
+pub fn sum_rows(rt: &HostRuntime, n: u64, rows: &mut Vec<Row>) -> Result<(), Fault> {
+    let mut bytes = vec![in rt.alloc(); 0; 131_072]?;
+    let blocks = n / 64;
+    let start = Instant::now(rt)?;
+    for _ in 0..blocks {
+        let digest = sum(&bytes);
+        // the next sum depends on this one, so that none is left out
+        if let Some(first) = bytes.first_mut() {
+            *first = digest[0];
+        }
+    }
+    put(rt, rows, "zs_sum sum 131072", blocks, start)
 }

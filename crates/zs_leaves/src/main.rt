@@ -55,6 +55,7 @@ fn rows_at(rt: &HostRuntime, entries: u32) -> Result<Vec<Row>, Fault> {
     space::space_rows(rt, entries, &mut rows)?;
     devices::log_rows(rt, n, &mut rows)?;
     devices::lane_rows(rt, n, &mut rows)?;
+    devices::sum_rows(rt, n, &mut rows)?;
     Ok(rows)
 }
 
