@@ -1,11 +1,10 @@
 -- A search through open reads that has found none of a client with a plan so far.
-use Rattle.std.specs.Prelude.{◌≡◌, ◌<◌, ◌+◌, ◌↔◌, ℕ, Bool, true, false, IsTrue, List, [], ◌∷◌, ◌++◌, length, take, drop, Option, refl}
-use Rattle.std.proofs.Common.{sym, ◌∙◌, ap, subst, inl, inr, arith, append_assoc, append-nil, get_or}
+use Rattle.std.specs.Prelude.{◌≡◌, ◌<◌, ◌+◌, ◌↔◌, ℕ, Bool, false, IsTrue, List, [], ◌∷◌, ◌++◌, length, take, drop, Option, refl}
+use Rattle.std.proofs.Common.{sym, ◌∙◌, ap, subst, inl, inr, append_assoc, append-nil, get_or}
 use Rattle.std.proofs.lemmas.List.{length-append}
 use Rattle.std.proofs.lemmas.Bool.{true≢false}
 use Rattle.std.proofs.Math.Seq.{drop-cons, take-append_seam, drop-append_seam, get_or-append_seam}
 use native.Mathlib.Numerals.{add-one}
-use Rattle.zs_ids.specs.Graph.{Has}
 use Rattle.zs_machine.specs.declared.event.ReadPlan.{ReadPlan}
 use Rattle.zs_machine.specs.declared.event.OpenRead.{OpenRead}
 use Rattle.zs_script.specs.declared.reply.Reply.{Reply}

@@ -1,5 +1,5 @@
 -- What a history tells to be in flight, as events are added to it.
-use Rattle.std.specs.Prelude.{◌≡◌, ◌==◌, ◌<◌, ◌≤◌, ◌⊎◌, ℕ, Bool, true, false, List, [], ◌∷◌, ◌++◌, filter, fold, length, map, not, refl, if◌then◌else◌}
+use Rattle.std.specs.Prelude.{◌≡◌, ◌==◌, ◌≤◌, ℕ, Bool, true, false, List, [], ◌∷◌, ◌++◌, filter, fold, length, map, not, refl}
 use Rattle.std.proofs.Common.{sym, ◌∙◌, ap, subst, inl, inr, arith}
 use Rattle.std.proofs.lemmas.List.Sums.{fold-append}
 use Rattle.std.proofs.lemmas.List.{map-append}
@@ -32,25 +32,25 @@ pub fly_still : (old new_flight : List Batch) (es new : List Event) (e : Event) 
 fly_still old new_flight es new e is fly same other = fly_on old new_flight es new e is fly (ap (map flying_of) same ∙ sym other)
 
 -- a batch that was taken flies; an empty one does not
-pub taken_after : (b : Batch) (flight : List Batch) → 1 ≤ length b.items → map flying_of (flight ++ b ∷ []) ≡ with_batch (map flying_of flight) b.number (pieces_in b.items)
+pub taken_after : (b : Batch) (flight : List Batch) → 1 ≤ length b.items → map flying_of (flight ++ b ∷ []) ≡ with_batch (map flying_of flight) b.number b.online (pieces_in b.items)
 taken_after b flight some = by b.items refl some
   where
-    by : (items : List Item) → b.items ≡ items → 1 ≤ length items → map flying_of (flight ++ b ∷ []) ≡ with_batch (map flying_of flight) b.number (pieces_in b.items)
+    by : (items : List Item) → b.items ≡ items → 1 ≤ length items → map flying_of (flight ++ b ∷ []) ≡ with_batch (map flying_of flight) b.number b.online (pieces_in b.items)
     by [] is none = absurd (omega (arith, none))
     by (i ∷ is) same many =
         map-append flying_of flight (b ∷ [])
-        ∙ (ap (λ (l : List Item). map flying_of flight ++ record { number = b.number; pieces = pieces_in l } ∷ []) same
-        ∙ sym (ap (λ (l : List Item). with_batch (map flying_of flight) b.number (pieces_in l)) same))
+        ∙ (ap (λ (l : List Item). map flying_of flight ++ record { number = b.number; online = b.online; pieces = pieces_in l } ∷ []) same
+        ∙ sym (ap (λ (l : List Item). with_batch (map flying_of flight) b.number b.online (pieces_in l)) same))
 
-none_after : (flying : List Flying) (number : ℕ) (items : List Item) → items ≡ [] → with_batch flying number (pieces_in items) ≡ flying
-none_after flying number items is = ap (λ (l : List Item). with_batch flying number (pieces_in l)) is
+none_after : (flying : List Flying) (number online : ℕ) (items : List Item) → items ≡ [] → with_batch flying number online (pieces_in items) ≡ flying
+none_after flying number online items is = ap (λ (l : List Item). with_batch flying number online (pieces_in l)) is
 
 -- after a batch was taken, or none
-pub held_after : (old new : ScanView) (b : Batch) → (1 ≤ length b.items → Taken old b new) → (length b.items ≡ 0 → new ≡ record old { room = new.room }) → map flying_of new.flight ≡ with_batch (map flying_of old.flight) b.number (pieces_in b.items)
+pub held_after : (old new : ScanView) (b : Batch) → (1 ≤ length b.items → Taken old b new) → (length b.items ≡ 0 → new ≡ record old { room = new.room }) → map flying_of new.flight ≡ with_batch (map flying_of old.flight) b.number b.online (pieces_in b.items)
 held_after old new b taken none = by b.items refl
   where
-    by : (items : List Item) → b.items ≡ items → map flying_of new.flight ≡ with_batch (map flying_of old.flight) b.number (pieces_in b.items)
-    by [] is = ap (λ (v : ScanView). map flying_of v.flight) (none (ap (λ (l : List Item). length l) is)) ∙ sym (none_after (map flying_of old.flight) b.number b.items is)
+    by : (items : List Item) → b.items ≡ items → map flying_of new.flight ≡ with_batch (map flying_of old.flight) b.number b.online (pieces_in b.items)
+    by [] is = ap (λ (v : ScanView). map flying_of v.flight) (none (ap (λ (l : List Item). length l) is)) ∙ sym (none_after (map flying_of old.flight) b.number b.online b.items is)
     by (i ∷ is) some =
         let many : length b.items ≡ length (i ∷ is) = ap (λ (l : List Item). length l) some in
         let one : 1 ≤ length b.items = omega (arith, many) in
@@ -70,23 +70,23 @@ one_more (f ∷ fs) last many some =
     let rest = one_more fs last many (λ b h. some b (inr h)) in
     λ b h. elim h [ inl is ↦ some b (inl is) | inr more ↦ rest b more ]
 
-taken_some : (flying : List Flying) (number : ℕ) (pieces : List Piece) → HavePieces flying → HavePieces (with_batch flying number pieces)
-taken_some flying number [] some = some
-taken_some flying number (p ∷ ps) some = one_more flying (record { number = number; pieces = p ∷ ps }) (omega arith) some
+taken_some : (flying : List Flying) (number online : ℕ) (pieces : List Piece) → HavePieces flying → HavePieces (with_batch flying number online pieces)
+taken_some flying number online [] some = some
+taken_some flying number online (p ∷ ps) some = one_more flying (record { number = number; online = online; pieces = p ∷ ps }) (omega arith) some
 
 -- so it is after one more step
 after_some : (flying : List Flying) (s : Step) → HavePieces flying → HavePieces (flying_after flying s)
-after_some flying (step.Hold number vdev online pieces) some = taken_some flying number pieces some
+after_some flying (step.Hold number vdev online pieces) some = taken_some flying number online pieces some
 after_some flying (step.Verdict number pieces entries) some = landed_some flying number pieces some
 after_some flying (step.Command c) some = some
 after_some flying (step.Line c) some = some
 after_some flying (step.Walk turn) some = some
 after_some flying step.BeginSync some = some
-after_some flying (step.EndData online items) some = some
+after_some flying (step.EndData online marks items) some = some
 after_some flying (step.Committed online) some = some
 after_some flying (step.Suspend online why) some = some
 after_some flying (step.ReadBegin c planned) some = some
-after_some flying (step.ReadEnd p) some = some
+after_some flying (step.ReadEnd p places) some = some
 after_some flying (step.Made c) some = some
 
 all_some : (es : List Event) (flying : List Flying) → HavePieces flying → HavePieces (fold (λ f e. flying_after f e.step) flying es)
@@ -122,7 +122,7 @@ pub is_of_flight : (flight : List Batch) (es : List Event) (v : ScanView) (numbe
 is_of_flight flight es v number entries made same fly is =
     let told : Has (map flying_of flight) (flying_of is.batch) = flying_here flight is.batch (subst (λ (l : List Batch). Has l is.batch) same is.here) in
     let told_so : Has (in_flight es) (flying_of is.batch) = subst (λ (l : List Flying). Has l (flying_of is.batch)) fly.are told in
-    inl (rw (pieces_of_entries (is.batch).items entries is.of_items, ← is.named) told_so)
+    inl ((is.batch).online, rw (pieces_of_entries (is.batch).items entries is.of_items, ← is.named) told_so)
 
 -- a verdict takes its batch out of the flight
 pub judged_after : (old new : ScanView) (es : List Event) (number : ℕ) (entries : List Entry) → FlyAsTold old.flight es → IsVerdict old number entries → Judged old number entries new → map flying_of new.flight ≡ landed (map flying_of old.flight) number (map (λ (e : Entry). e.piece) entries)

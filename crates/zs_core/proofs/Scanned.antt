@@ -1,6 +1,6 @@
 -- What is kept of a pool's state where just the scan changes.
 use Rattle.std.specs.Prelude.{◌≡◌, ◌≤◌, ◌+◌, ℕ, List, [], ◌∷◌, length, Option, Some, None, refl}
-use Rattle.std.proofs.Common.{sym, ◌∙◌, ap, subst, inl, inr, arith}
+use Rattle.std.proofs.Common.{sym, ◌∙◌, ap, inl, inr, arith}
 use Rattle.std.proofs.lemmas.Bool.{true≢false}
 use Rattle.zs_ids.specs.Graph.{Dataset}
 use Rattle.zs_walk.specs.Left.{AreHeadsOnOrigin}
@@ -28,6 +28,7 @@ pub record IsAlike (old new : ScanView) : Type 0 where
 pub with_scan : (p : Inside) (v : ScanView) → Facts p → IsAlike p.scan v → ((start blocks : ℕ) → IsScanOf (room_of start p.end_sector blocks) (graph_of p.heads.head) (born_by p.applied) (p.applied + 1) p.scan → IsScanOf (room_of start p.end_sector blocks) (graph_of p.heads.head) (born_by p.applied) (p.applied + 1) v) → Facts (record p { scan = v })
 with_scan p v f same keeps = record {
   shape = f.shape;
+  online = f.online;
   end = f.end;
   width = same.width ∙ f.width;
   begun = f.begun;

@@ -8,13 +8,14 @@ use Rattle.zs_script.specs.declared.reply.Reply.TheVariants as reply
 use Rattle.zs_machine.specs.declared.event.Stage.{Stage}
 use Rattle.zs_machine.specs.declared.event.Stage.TheVariants as stages
 
--- the commands that stage a record, queue a task or ask for the status, with numbers in their ranges
+-- the commands that stage a record, queue a task or ask for the status or the damaged pieces, with numbers in their ranges
 abbrev pub IsPoolCommand : Command → Type 0
 IsPoolCommand (command.Fs name) = Unit {0}
 IsPoolCommand command.Scrub = Unit {0}
 IsPoolCommand (command.Make ds object levels size fill) = IsMake object levels size
 IsPoolCommand (command.Write ds object leaf fill) = IsRecord object leaf
 IsPoolCommand command.Status = Unit {0}
+IsPoolCommand command.Errors = Unit {0}
 IsPoolCommand _ = ⊥
 
 -- how many events a sync in progress still adds: one when its data are written, and one when it ends

@@ -7,7 +7,7 @@ use Rattle.zs_machine.specs.Flight.{Flying, in_flight}
 
 -- a batch of a scan as a history tells of it
 abbrev pub flying_of : Batch → Flying
-flying_of b = record { number = b.number; pieces = pieces_in b.items }
+flying_of b = record { number = b.number; online = b.online; pieces = pieces_in b.items }
 
 -- what a history tells to be in flight is what the scan has in flight
 pub record FlyAsTold (flight : List Batch) (es : List Event) : Type 0 where

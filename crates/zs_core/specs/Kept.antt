@@ -1,5 +1,5 @@
 -- What is true of each pool's present state, and what contracts see of it.
-use Rattle.std.specs.Prelude.{◌≡◌, ℕ, ◌+◌, ◌<◌, ◌≤◌, false, max, List, [], Option, Some, None, is_some, if◌then◌else◌, ◌↔◌}
+use Rattle.std.specs.Prelude.{◌≡◌, ℕ, ◌+◌, ◌-◌, ◌^◌, ◌<◌, ◌≤◌, false, max, List, [], Option, Some, None, is_some, if◌then◌else◌, ◌↔◌}
 use Rattle.zs_ids.specs.declared.key.Key.{Key}
 use Rattle.zs_ids.specs.declared.block.Bp.{Bp}
 use Rattle.zs_ids.specs.declared.dataset.DsId.{DsId}
@@ -93,10 +93,11 @@ IsAtStage head applied open_txg None _ = open_txg ≡ applied + 1
 abbrev pub born_by : ℕ → ℕ
 born_by applied = max 1 applied
 
--- what is true of every present state: the head and what is staged lie in the space, which ends where the least device
--- does; the scan belongs to the datasets; and the transaction groups follow each other, unless the pool was suspended
+-- what is true of every present state: every device is online; the head and what is staged lie in the space, which ends
+-- where the least device does; the scan belongs to the datasets; and the transaction groups follow each other, unless the pool was suspended
 pub record Facts (p : Inside) : Type 0 where
   pub shape : IsShape p.shape
+  pub online : p.online ≡ 2 ^ p.shape.devices - 1
   pub end : IsLeast p.end_sector p.shape.sectors
   pub width : p.scan.scope.width ≡ p.shape.width
   pub begun : data_start p.shape.blocks ≤ p.next_sector

@@ -6,10 +6,12 @@ use Rattle.zs_scan.specs.View.{ScanView}
 use Rattle.zs_scan.specs.Walks.{IsFull}
 use Rattle.zs_script.specs.declared.command.Command.{Command}
 use Rattle.zs_script.specs.declared.command.Command.TheVariants as command
+use Rattle.zs_script.specs.declared.refusal.Refusal.TheVariants.{OutOfRange, DeviceFault}
 use Rattle.zs_script.specs.declared.reply.Reply.{Reply}
 use Rattle.zs_script.specs.declared.reply.Reply.TheVariants as reply
 use Rattle.zs_script.specs.declared.reply.WalkEnd.{WalkEnd}
 use Rattle.zs_script.specs.declared.reply.WalkEnd.TheVariants as ends
+use Rattle.zs_machine.specs.Shapes.{IsInSpace}
 use Rattle.zs_machine.specs.Steps.{LineStep}
 use Rattle.zs_machine.specs.Flight.{in_flight}
 use Rattle.zs_machine.specs.Told.{TellsSteps, LeavesNone, line_steps}
@@ -31,12 +33,16 @@ waiting_counts v = length (filter (is_of 0) v.waiting) ∷ []
 abbrev pub TookAll : ScanView → ℕ → ℕ → ℕ → Type 0
 TookAll v vdev n taken = (taken ≡ n) ⊎ (filter (is_of vdev) v.waiting ≡ [])
 
--- what the reply to a line tells of the pool
+-- what the reply to a line tells of the pool: a `rot` of a range that lies in the space of every device was made, or the device
+-- failed; of another range it is refused
 abbrev pub TellsPool : CoreView → Command → Reply → Type 0
 TellsPool v (command.Walk n) (reply.Walked turns why waiting) = IsWhy v n turns why × (waiting ≡ waiting_counts v.scan)
 TellsPool v (command.Issue vdev n) (reply.Issued w pieces) = TookAll v.scan vdev n (length pieces)
 TellsPool v (command.Hold vdev n) (reply.Held w sectors) = TookAll v.scan vdev n (length sectors)
 TellsPool v command.Land (reply.Landed entries pieces) = v.scan.flight ≡ []
+TellsPool v (command.Rot dev sector count) (reply.Rotted d first many) = IsInSpace v.shape sector count
+TellsPool v (command.Rot dev sector count) (reply.Refused OutOfRange) = IsInSpace v.shape sector count → ⊥
+TellsPool v (command.Rot dev sector count) (reply.Refused DeviceFault) = IsInSpace v.shape sector count
 TellsPool v _ _ = Unit {0}
 
 -- the reply to a line is the one that the line's steps and the pool give

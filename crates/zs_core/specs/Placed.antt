@@ -2,6 +2,7 @@
 -- all of these lie.
 use Rattle.std.specs.Prelude.{◌≡◌, ◌<◌, ◌≤◌, ◌+◌, ◌==◌, ℕ, true, is_some, if◌then◌else◌, List, [], ◌∷◌, Option, Some, None}
 use Rattle.zs_ids.specs.declared.key.Key.{Key}
+use Rattle.zs_ids.specs.declared.limits.TheConstants.{OBJECTS}
 use Rattle.zs_ids.specs.declared.block.Bp.{Bp}
 use Rattle.zs_ids.specs.declared.block.Piece.{Piece}
 use Rattle.zs_ids.specs.declared.block.Place.{Place}
@@ -34,8 +35,8 @@ room_of start end blocks = record { start = start; ends = end ∷ []; blocks = b
 -- dnodes, or the record of an object
 pub data IsFormed (size : ℕ → ℕ) (key : Key) (sectors : ℕ) : Type 0 where
   root : key ≡ root_key → sectors ≡ 8 → IsFormed size key sectors
-  dnodes : (object : ℕ) → object ≤ 2047 → key ≡ dnode_key object → sectors ≡ 8 → IsFormed size key sectors
-  leaf : (object : ℕ) → 1 ≤ object → object ≤ 2047 → key ≡ record_key object 0 → sectors ≡ size object → IsFormed size key sectors
+  dnodes : (object : ℕ) → object ≤ OBJECTS → key ≡ dnode_key object → sectors ≡ 8 → IsFormed size key sectors
+  leaf : (object : ℕ) → 1 ≤ object → object ≤ OBJECTS → key ≡ record_key object 0 → sectors ≡ size object → IsFormed size key sectors
 
 -- the record sizes with that of one object set
 abbrev pub resized : (ℕ → ℕ) → ℕ → ℕ → ℕ → ℕ

@@ -1,5 +1,5 @@
 -- How a read began, as its event tells it.
-use Rattle.std.specs.Prelude.{◌≡◌, ℕ, ◌≤◌, ◌<◌, length, List, [], ◌∷◌, ◌++◌, Option, Some, None}
+use Rattle.std.specs.Prelude.{◌≡◌, ℕ, ◌≤◌, ◌<◌, length, List, ◌∷◌, ◌++◌, Option, Some, None}
 use Rattle.std.specs.Int.{from_be_bytes, w64}
 use Rattle.zs_ids.specs.declared.block.Bp.{Bp}
 use Rattle.zs_ids.specs.Graph.{Has}

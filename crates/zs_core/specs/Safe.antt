@@ -1,7 +1,6 @@
 -- What callers may rely on of a pool, also of one that is suspended, and of the places that a command takes.
-use Rattle.std.specs.Prelude.{◌≡◌, ◌≤◌, ◌+◌, ◌/◌, ℕ, Option, None, Some}
+use Rattle.std.specs.Prelude.{◌≡◌, ◌≤◌, ◌+◌, ◌-◌, ◌/◌, ◌^◌, ℕ, Option, None, Some}
 use Rattle.zs_ids.specs.Graph.{Dataset}
-use Rattle.zs_ids.specs.declared.dataset.DsName.{DsName}
 use Rattle.zs_scan.specs.Covered.{IsScanOf}
 use Rattle.zs_scan.specs.Kept.{IsOrderly}
 use Rattle.zs_script.specs.declared.command.Command.{Command}
@@ -14,10 +13,12 @@ use Rattle.zs_core.specs.Kept.{IsFullExactly, born_by, sectors_to_stage}
 use Rattle.zs_machine.specs.Shapes.{IsShape, IsLeast, data_start, room_in}
 use Rattle.zs_core.specs.View.{CoreView, scan_of}
 
--- the pool has the devices and mirrors of its shape, and what was handed out of its space, which ends where its least device does
+-- the pool has the devices and mirrors of its shape, and what was handed out of its space, which ends where its least device does;
+-- every device is online: none can be taken offline yet
 pub record IsShaped (v : CoreView) : Type 0 where
   pub shape : IsShape v.shape
   pub devices : v.state.devices ≡ v.shape.devices
+  pub online : v.state.online ≡ 2 ^ v.state.devices - 1
   pub width : v.scan.scope.width ≡ v.shape.width
   pub end : IsLeast v.end_sector v.shape.sectors
   pub begun : data_start v.shape.blocks ≤ v.next_sector

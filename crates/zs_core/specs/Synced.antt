@@ -2,6 +2,7 @@
 use Rattle.std.specs.List.Sorted.{IsPermutation}
 use Rattle.zs_ids.specs.declared.block.Bp.{Bp}
 use Rattle.zs_ids.specs.declared.block.Item.{Item}
+use Rattle.zs_ids.specs.declared.block.Marks.{Marks}
 use Rattle.zs_ids.specs.declared.key.Key.{Key}
 use Rattle.zs_scan.specs.Walks.{item_of}
 use Rattle.zs_script.specs.declared.reply.Reply.TheVariants as reply
@@ -9,7 +10,7 @@ use Rattle.zs_machine.specs.declared.event.Step.TheVariants as step
 use Rattle.zs_machine.specs.Steps.{DataStep}
 use Rattle.zs_core.specs.View.{PoolView}
 use Rattle.zs_machine.specs.History.{AddsEvent}
-use Rattle.std.specs.Prelude.{◌≡◌, ◌⊎◌, ◌++◌, ◌∷◌, [], ℕ, true, List, map}
+use Rattle.std.specs.Prelude.{◌≡◌, ◌⊎◌, ℕ, true, List, map}
 use Rattle.zs_ids.specs.declared.block.Piece.{Piece}
 use Rattle.zs_ids.specs.Graph.{Graph, IsLive}
 use Rattle.zs_scan.specs.View.{ScanView}
@@ -39,9 +40,9 @@ pub record IsSynced (pieces : List Piece) (t : ℕ) (old new : ScanView) : Type 
 abbrev pub AreItemsOf : List (Key × Bp) → List Item → Type 0
 AreItemsOf pointers items = IsPermutation (map (λ c. item_of c.1) pointers) items
 
--- the closed transaction group was applied, which the event tells with the items of its blocks
-pub record AppliesGroup (old new : PoolView) : Type 0 where
+-- the closed transaction group was applied, which the event tells with the marks of its writes and the items of its blocks
+pub record AppliesGroup (marks : Marks) (old new : PoolView) : Type 0 where
   pub items : List Item
-  pub event : AddsEvent 0 (step.EndData old.core.state.online items) reply.Nothing old.history new.history
+  pub event : AddsEvent 0 (step.EndData old.core.state.online marks items) reply.Nothing old.history new.history
   pub are_items : AreItemsOf old.core.pointers items
   pub applied : DataStep old.core.state items new.core.state

@@ -12,8 +12,6 @@ use Rattle.zs_machine.specs.declared.event.OpenRead.{OpenRead}
 use Rattle.zs_core.specs.declared.parts.Closed.{Closed}
 use Rattle.zs_machine.specs.declared.shape.Shape.{Shape}
 use Rattle.zs_machine.specs.declared.event.Event.{Event}
-use Rattle.zs_machine.specs.declared.event.Step.{Step}
-use Rattle.zs_script.specs.declared.reply.Reply.{Reply}
 use Rattle.zs_scan.specs.View.{ScanView}
 use Rattle.zs_machine.specs.Machine.{PoolState, Txg, Data, ScanState}
 use Rattle.zs_machine.specs.Steps.{origin, no_name}

@@ -21,7 +21,7 @@ use crate::present::Present;
 use crate::tasks::run_tasks;
 use std::alloc::{AllocError, Global};
 use zs_flat::Flat;
-use zs_ids::{Blocks, Bp, Item, Key};
+use zs_ids::{Blocks, Boxed, Bp, Item, Key, Seq};
 use zs_machine::Stage;
 use zs_scan::{Scan, item_of};
 
@@ -66,6 +66,15 @@ fn items_of(alloc: Global, changes: &[(Key, Bp)]) -> Result<Vec<Item>, AllocErro
     Ok(items)
 }
 
+/// The items of some pointers, in order of place, as an event has them.
+fn boxed_items(alloc: Global, changes: &[(Key, Bp)]) -> Result<Boxed<Seq<Item>>, AllocError>
+    ensures all { IfOk result (λ v. AreItemsOf changes.now v) }
+    ensures sorted { IfOk result (λ v. IsSortedByKey (λ i. i.piece) piece_cmp v) }
+{
+    let items = items_of(alloc, changes)?;
+    Boxed::new(alloc, Seq::from_vec(items))
+}
+
 /// The items of some pointers, in order of the pointers.
 fn pointed_items(alloc: Global, changes: &[(Key, Bp)]) -> Result<Vec<Item>, AllocError>
     ensures { IfOk result (λ v. v.items ≡ map (λ c. item_of c.1) changes.now) }
@@ -92,17 +101,17 @@ impl Present {
     /// place. The pieces that are not live any more are freed, and a task may start a scrub or resume a paused one. A scan
     /// that is complete then comes to its end, so none is complete after. All else of the scan stays as it was. What may be
     /// refused comes first, so after want of memory nothing has changed.
-    pub(crate) fn apply(&mut self) -> Result<Vec<Item>, AllocError>
+    pub(crate) fn apply(&mut self) -> Result<Boxed<Seq<Item>>, AllocError>
         requires up { self.old.state.suspended ≡ false }
         requires writing { self.old.state.stage ≡ Stage.Writing }
-        ensures step { IfOk result (λ items. DataStep self.old.state items.items self.new.state) }
+        ensures step { IfOk result (λ items. DataStep self.old.state items self.new.state) }
         ensures complete { OnOk result (IsComplete self.old.scan → self.new.state.finished ≡ true) }
         ensures never { OnOk result (IsComplete self.new.scan → ⊥) }
         ensures scan { OnOk result
             ((pieces : List Piece) × AreGone pieces self.old.state.graph self.new.state.graph ×
             IsSynced pieces self.new.state.applied self.old.scan self.new.scan) }
         ensures rest { OnOk result (self.new ≡ record self.old { state = self.new.state; scan = self.new.scan; pointers = [] }) }
-        ensures items { IfOk result (λ items. AreItemsOf self.old.pointers items.items) }
+        ensures items { IfOk result (λ items. AreItemsOf self.old.pointers items) }
         ensures stage { OnOk result (self.new.state.stage ≡ Stage.Labelling) }
         ensures err { OnErr result (self.new ≡ self.old) }
     {
@@ -111,7 +120,7 @@ impl Present {
         };
         let mut answers = Vec::new(self.alloc);
         answers.reserve(closed.txg.tasks() as usize)?;
-        let items = items_of(self.alloc, &closed.changes)?;
+        let items = boxed_items(self.alloc, &closed.changes)?;
         put_in(&mut self.heads, &closed.changes, &mut self.scan)?;
         run_tasks(
             self.alloc,

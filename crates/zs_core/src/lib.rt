@@ -19,17 +19,19 @@
 //!
 //! The sessions of `zscan` call it. Two layers: `present` makes the steps and keeps what is true of the state; `pool` adds
 //! one event per call. To change what a command does see `staging` and `specs/Replies`, `specs/Steps`; the end of a sync
-//! `apply` and `tasks`; the scan `scanning`, and under it `zs_scan`; what `status` tells `status`, `specs/Status`; which
-//! reply a line may have `specs/Line`.
+//! `apply` and `tasks`; the scan `scanning`, and under it `zs_scan`; what `status` tells `status`, `specs/Status`; what
+//! `errors` tells `errors`; which reply a line may have `specs/Line`.
 #![tactic(auto)]
 
 mod apply;
+mod errors;
 mod freeing;
 mod heads;
 mod parts;
 pub mod pool;
 mod present;
 mod read;
+mod replies;
 mod scanning;
 mod staging;
 mod status;

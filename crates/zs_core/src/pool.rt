@@ -14,14 +14,14 @@ ghost use Rattle.zs_core.specs.Status.{status_reply};
 ghost use Rattle.zs_machine.specs.Steps.{committed_reply, CommandStep, DataStep, ReadBeginStep, ReadEndStep, VerdictStep, blank_state, begun_sync, halted};
 ghost use Rattle.zs_machine.specs.Replies.{read_refusal};
 ghost use Rattle.zs_core.specs.FlightTold.{FlyAsTold};
-ghost use Rattle.zs_machine.specs.Writes.{AreStagedBlocks, AreInRoom};
+ghost use Rattle.zs_machine.specs.Writes.{AreStagedBlocks, AreInRoom, AreApart};
 ghost use Rattle.zs_ledger.specs.Entry.{HaveCopies};
 ghost use Rattle.zs_ids.specs.declared.block.Item.{Item};
 ghost use Rattle.zs_core.specs.Judging.{HasVerdict};
 ghost use Rattle.zs_core.specs.Synced.{AreGone, IsSynced, AppliesGroup};
 ghost use Rattle.zs_objset.specs.Staged.{pointers_of};
 ghost use Rattle.zs_core.specs.Safe.{IsSafe, IsFullFor, next_after};
-ghost use Rattle.zs_core.specs.Reading.{IsGotFor, IsReadReply, EndsIfRead, IsPlanInRoom};
+ghost use Rattle.zs_core.specs.Reading.{IsGotFor, EndsIfRead, IsPlanInRoom};
 ghost use Rattle.zs_machine.specs.History.{AddsEvent};
 ghost use Rattle.zs_core.specs.View.{KeepsCourse, KeepsReads, with_read};
 ghost use Rattle.std.specs.Prelude.{ℕ, List, Option};
@@ -32,10 +32,11 @@ ghost use Rattle.zs_core.specs.Calls.{IsPoolCommand, IsPlain};
 
 use crate::present::Present;
 use crate::read::Begun;
+use crate::replies::{copied, read_copied};
 use std::alloc::{AllocError, Global};
 use std::marker::Model;
 use zs_ids::limits::TXG_END;
-use zs_ids::{DsName, Item, Piece, Seq};
+use zs_ids::{Boxed, DsName, Item, Marks, Piece, Seq};
 use zs_ledger::Entry;
 use zs_machine::{Event, ReadPlan, Shape, Stage, Step};
 use zs_objset::{CommitFault, Staged};
@@ -137,26 +138,36 @@ fn pieces_judged(pieces: Vec<Piece>, entries: &[Entry]) -> Vec<Piece>
     pieces
 }
 
-/// The event of a sync in which memory was wanting, with the devices that were online.
-fn suspended(online: u32) -> Event
-    ensures { result ≡ record { by = 0; step = Step.Suspend online CommitFault.Memory; reply = Reply.Nothing } }
+/// Suspends a pool in whose sync memory was wanting, and adds the event of that to its history, which has room for it. Takes
+/// no memory.
+fn halt(present: &mut Present, history: &mut Vec<Event>)
+    requires room { vec_len history.old < vec_capacity history.old }
+    ensures present { present.new ≡ record present.old { state = halted present.old.state } }
+    ensures items { history.new.items
+        ≡ history.old.items
+        ++ record { by = 0; step = Step.Suspend present.old.state.online CommitFault.Memory; reply = Reply.Nothing } ∷ [] }
+    ensures len { vec_len history.new ≡ vec_len history.old + 1 }
+    ensures capacity { vec_capacity history.new ≡ vec_capacity history.old }
 {
-    Event {
+    let online = present.online();
+    present.suspend();
+    let event = Event {
         by: 0,
         step: Step::Suspend {
             online,
             why: CommitFault::Memory,
         },
         reply: Reply::Nothing,
-    }
+    };
+    note(history, event);
 }
 
 /// Adds the event of a command to a history that has room for it, and gives the reply back. The reply is one that
 /// stands alone.
-fn record(history: &mut Vec<Event>, by: u8, c: &Command, reply: Reply) -> Reply
+fn record(history: &mut Vec<Event>, by: u8, c: Boxed<Command>, reply: Reply) -> Reply
     requires room { vec_len history.old < vec_capacity history.old }
     requires plain { IsPlain reply }
-    ensures event { history.new.items ≡ history.old.items ++ record { by = by; step = Step.Command c.now; reply = reply } ∷ [] }
+    ensures event { history.new.items ≡ history.old.items ++ record { by = by; step = Step.Command c; reply = reply } ∷ [] }
     ensures len { vec_len history.new ≡ vec_len history.old + 1 }
     ensures capacity { vec_capacity history.new ≡ vec_capacity history.old }
     ensures same { result ≡ reply }
@@ -164,64 +175,11 @@ fn record(history: &mut Vec<Event>, by: u8, c: &Command, reply: Reply) -> Reply
     let copy = copied(&reply);
     let event = Event {
         by,
-        step: Step::Command(*c),
+        step: Step::Command(c),
         reply: copy,
     };
     note(history, event);
     reply
-}
-
-/// Another reply like one that stands alone.
-fn copied(reply: &Reply) -> Reply
-    requires { IsPlain reply.now }
-    ensures { result ≡ reply.now }
-{
-    match reply {
-        Reply::Queued { txg, task } => Reply::Queued {
-            txg: *txg,
-            task: *task,
-        },
-        Reply::Wrote {
-            ds,
-            object,
-            leaf,
-            txg,
-        } => Reply::Wrote {
-            ds: *ds,
-            object: *object,
-            leaf: *leaf,
-            txg: *txg,
-        },
-        Reply::Refused(refusal) => Reply::Refused(*refusal),
-        _ => unreachable!(),
-    }
-}
-
-/// Another reply like one that ends a read.
-fn read_copied(reply: &Reply) -> Reply
-    requires { IsReadReply reply.now }
-    ensures { result ≡ reply.now }
-{
-    match reply {
-        Reply::Read {
-            ds,
-            object,
-            leaf,
-            value,
-        } => Reply::Read {
-            ds: *ds,
-            object: *object,
-            leaf: *leaf,
-            value: *value,
-        },
-        Reply::ReadHole { ds, object, leaf } => Reply::ReadHole {
-            ds: *ds,
-            object: *object,
-            leaf: *leaf,
-        },
-        Reply::Refused(refusal) => Reply::Refused(*refusal),
-        _ => unreachable!(),
-    }
 }
 
 #[tactic(auto, using(zs_machine::proofs::Histories::history_on, crate::proofs::Flying::fly_still))]
@@ -248,6 +206,7 @@ impl Pool {
             every: shape.every,
             blocks: shape.blocks,
         };
+        let line = Boxed::new(alloc, line)?;
         let event = Event {
             by: 0,
             step: Step::Made(line),
@@ -273,6 +232,13 @@ impl Pool {
         ensures flight { FlyAsTold self.now.core.scan.flight self.now.history }
     {
         self.present.facts();
+    }
+
+    /// The numbers that the pool was made with.
+    pub fn shape(&self) -> &Shape
+        ensures { result.now ≡ self.now.core.shape }
+    {
+        self.present.shape()
     }
 
     /// The scan.
@@ -319,7 +285,7 @@ impl Pool {
         self.history.as_slice()
     }
 
-    /// Stages a record or queues a task, for a client. Refusals are replies.
+    /// Stages a record, queues a task, or tells the status or the damaged pieces, for a client. Refusals are replies.
     pub fn command(&mut self, by: u8, c: &Command) -> Result<Reply, AllocError>
         requires { IsPoolCommand c.now }
         ensures adds { IfOk result (λ answer. self.new.history ≡ self.old.history ++ record { by = by; step = Step.Command c.now; reply = answer } ∷ []) }
@@ -332,14 +298,15 @@ impl Pool {
         ensures err { OnErr result (self.new ≡ self.old) }
     {
         self.history.reserve(ROOM)?;
+        let line = Boxed::new(self.alloc, *c)?;
         match c {
             Command::Fs { name } => {
                 let reply = self.present.queue(by, Task::Fs(*name))?;
-                Ok(record(&mut self.history, by, c, reply))
+                Ok(record(&mut self.history, by, line, reply))
             }
             Command::Scrub => {
                 let reply = self.present.queue(by, Task::Scrub)?;
-                Ok(record(&mut self.history, by, c, reply))
+                Ok(record(&mut self.history, by, line, reply))
             }
             Command::Make {
                 ds,
@@ -349,7 +316,7 @@ impl Pool {
                 ..
             } => {
                 let reply = self.present.make(ds, *object, *size, *fill)?;
-                Ok(record(&mut self.history, by, c, reply))
+                Ok(record(&mut self.history, by, line, reply))
             }
             Command::Write {
                 ds,
@@ -358,14 +325,24 @@ impl Pool {
                 fill,
             } => {
                 let reply = self.present.write(ds, *object, *leaf, *fill)?;
-                Ok(record(&mut self.history, by, c, reply))
+                Ok(record(&mut self.history, by, line, reply))
             }
             Command::Status => {
                 let told = self.present.status()?;
                 let reply = self.present.status()?;
                 let event = Event {
                     by,
-                    step: Step::Command(*c),
+                    step: Step::Command(line),
+                    reply: told,
+                };
+                note(&mut self.history, event);
+                Ok(reply)
+            }
+            Command::Errors => {
+                let (reply, told) = self.present.errors()?;
+                let event = Event {
+                    by,
+                    step: Step::Command(line),
                     reply: told,
                 };
                 note(&mut self.history, event);
@@ -387,6 +364,7 @@ impl Pool {
         ensures online { IfOk result (λ staged. staged.online ≡ self.old.core.state.online) }
         ensures blocks { IfOk result (λ staged. AreStagedBlocks self.old.core.state.graph self.old.core.state.open_txg staged.blocks) }
         ensures within { IfOk result (λ staged. AreInRoom (room_in self.old.core.shape self.old.core.end_sector 0) staged.blocks) }
+        ensures apart { IfOk result (λ staged. AreApart staged.blocks) }
         ensures pointers { IfOk result (λ staged. self.new.core.pointers ≡ pointers_of staged.blocks) }
         ensures rest { self.new.core ≡ record self.old.core { state = self.new.core.state; pointers = self.new.core.pointers } }
         ensures told { (why : Refusal) → IsErrOf result (PoolFault.Refused why) →
@@ -425,12 +403,14 @@ impl Pool {
     }
 
     /// Applies the closed transaction group: its blocks, then its tasks, and the scan may come to its end. The pieces that
-    /// are not live any more are freed, a scrub may start or be resumed, and all else of the scan stays as it was. After
-    /// want of memory the pool is suspended, and all else of it is as it was.
-    pub fn end_data(&mut self) -> Result<(), AllocError>
+    /// are not live any more are freed, a scrub may start or be resumed, and all else of the scan stays as it was. The marks
+    /// tell where the blocks' writes stand in the journals; no device failed. After want of memory the pool is suspended,
+    /// and all else of it is as it was.
+    pub fn end_data(&mut self, marks: &Marks) -> Result<(), AllocError>
         requires writing { self.old.core.state.stage ≡ Stage.Writing }
         requires up { self.old.core.state.suspended ≡ false }
-        ensures step { OnOk result (AppliesGroup self.old self.new) }
+        requires failed { marks.now.failed ≡ 0 }
+        ensures step { OnOk result (AppliesGroup marks.now self.old self.new) }
         ensures ends { OnOk result (IsComplete self.old.core.scan → is_at_work self.new.core.state.scan ≡ false) }
         ensures rest { OnOk result (self.new.core ≡ record self.old.core { state = self.new.core.state; scan = self.new.core.scan; pointers = [] }) }
         ensures scan { OnOk result
@@ -444,16 +424,20 @@ impl Pool {
             (self.new.core ≡ record self.old.core { state = halted self.old.core.state })) }
     {
         let online = self.present.online();
+        let Ok(marks) = Boxed::new(self.alloc, *marks) else {
+            halt(&mut self.present, &mut self.history);
+            return Err(AllocError);
+        };
         let Ok(items) = self.present.apply() else {
-            self.present.suspend();
-            note(&mut self.history, suspended(online));
+            halt(&mut self.present, &mut self.history);
             return Err(AllocError);
         };
         let event = Event {
             by: 0,
             step: Step::EndData {
                 online,
-                items: Seq::from_vec(items),
+                marks,
+                items,
             },
             reply: Reply::Nothing,
         };
@@ -470,9 +454,10 @@ impl Pool {
         ensures err { OnErr result (self.new ≡ self.old) }
     {
         self.history.reserve(ROOM)?;
+        let line = Boxed::new(self.alloc, *c)?;
         let event = Event {
             by,
-            step: Step::Line(*c),
+            step: Step::Line(line),
             reply,
         };
         note(&mut self.history, event);
@@ -498,8 +483,7 @@ impl Pool {
             self.present.committed_reply(),
             self.present.committed_reply(),
         ) else {
-            self.present.suspend();
-            note(&mut self.history, suspended(online));
+            halt(&mut self.present, &mut self.history);
             return Err(AllocError);
         };
         self.present.commit();
@@ -559,19 +543,21 @@ impl Pool {
             (self.new.core.scan ≡ record self.old.core.scan { room = self.new.core.scan.room })) }
     {
         self.history.reserve(ROOM)?;
+        let mut taken = Boxed::new(self.alloc, Seq::new(self.alloc))?;
         let mut pieces = Vec::new(self.alloc);
         let most = n.min(self.present.scan().waiting_of(vdev));
         pieces.reserve(most as usize)?;
         let Ok(batch) = self.present.take(vdev, n) else {
             return Err(AllocError);
         };
+        taken.set(Seq::from_vec(filled(pieces, batch.items.as_slice())));
         let event = Event {
             by,
             step: Step::Hold {
                 number: batch.number,
                 vdev,
                 online: batch.online,
-                pieces: Seq::from_vec(filled(pieces, batch.items.as_slice())),
+                pieces: taken,
             },
             reply: Reply::Nothing,
         };
@@ -592,6 +578,8 @@ impl Pool {
         ensures err { OnErr result (self.new ≡ self.old) }
     {
         self.history.reserve(ROOM)?;
+        let mut judged = Boxed::new(self.alloc, Seq::new(self.alloc))?;
+        let mut entries = Boxed::new(self.alloc, Seq::new(self.alloc))?;
         let mut pieces = Vec::new(self.alloc);
         pieces.reserve(v.entries.len())?;
         let Some(made) = self.present.verdict(v.number, v.entries.as_slice())? else {
@@ -599,8 +587,8 @@ impl Pool {
                 by,
                 step: Step::Verdict {
                     number: v.number,
-                    pieces: Seq::new(self.alloc),
-                    entries: Seq::new(self.alloc),
+                    pieces: judged,
+                    entries,
                 },
                 reply: Reply::Nothing,
             };
@@ -608,12 +596,14 @@ impl Pool {
             return Ok(0);
         };
         let many = made.len();
+        judged.set(Seq::from_vec(pieces_judged(pieces, v.entries.as_slice())));
+        entries.set(Seq::from_vec(made));
         let event = Event {
             by,
             step: Step::Verdict {
                 number: v.number,
-                pieces: Seq::from_vec(pieces_judged(pieces, v.entries.as_slice())),
-                entries: Seq::from_vec(made),
+                pieces: judged,
+                entries,
             },
             reply: Reply::Nothing,
         };
@@ -651,12 +641,15 @@ impl Pool {
             object,
             leaf,
         };
+        let line = Boxed::new(self.alloc, line)?;
+        let mut planned = Boxed::new(self.alloc, ReadPlan::Hole)?;
         let begun = self.present.read_begin(by, ds, object, leaf)?;
         match begun {
             Begun::Planned(plan) => {
+                planned.set(plan);
                 let event = Event {
                     by,
-                    step: Step::ReadBegin(line, Some(plan)),
+                    step: Step::ReadBegin(line, Some(planned)),
                     reply: Reply::Nothing,
                 };
                 note(&mut self.history, event);
@@ -676,17 +669,19 @@ impl Pool {
 
     /// Ends the first open read of the client with this plan, and answers its reply: it has the staged fill, is `hole`, or
     /// has the first eight bytes of those that were got, and where none were got the piece is lost. Answers none, and
-    /// nothing changes, exactly where the client has no open read with this plan.
+    /// nothing changes, exactly where the client has no open read with this plan. The places are those of the reads of the
+    /// piece's copies in the journals of their devices; `u64::MAX` for a copy that was not read.
     pub fn read_end(
         &mut self,
         by: u8,
         plan: ReadPlan,
         got: Option<&[u8]>,
+        places: &[u64; 12],
     ) -> Result<Option<Reply>, AllocError>
         ghost bytes: { Option (List ℕ) }
         requires got { option_copied got ≡ bytes }
         requires fits { IsGotFor plan bytes }
-        ensures event { IfOk result (λ ended. IfSome ended (λ reply. AddsEvent by (Step.ReadEnd plan) reply self.old.history self.new.history)) }
+        ensures event { IfOk result (λ ended. IfSome ended (λ reply. AddsEvent by (Step.ReadEnd plan places.now) reply self.old.history self.new.history)) }
         ensures step { IfOk result (λ ended. IfSome ended (λ reply. ReadEndStep self.old.core.state by plan reply self.new.core.state)) }
         ensures ended { IfOk result (EndsIfRead by plan bytes self.old.core.state.reads self.new.core.state.reads) }
         ensures rest { self.new.core ≡ record self.old.core { state = record self.old.core.state { reads = self.new.core.state.reads } } }
@@ -694,13 +689,15 @@ impl Pool {
         ensures err { OnErr result (self.new ≡ self.old) }
     {
         self.history.reserve(ROOM)?;
+        let ended = Boxed::new(self.alloc, plan)?;
+        let places = Boxed::new(self.alloc, *places)?;
         let Some(reply) = self.present.read_end(by, &plan, got) else {
             return Ok(None);
         };
         let copy = read_copied(&reply);
         let event = Event {
             by,
-            step: Step::ReadEnd(plan),
+            step: Step::ReadEnd(ended, places),
             reply: copy,
         };
         note(&mut self.history, event);

@@ -7,7 +7,7 @@ ghost use Rattle.zs_machine.specs.Machine.{PoolState, is_running};
 ghost use Rattle.zs_walk.specs.Walking.{runs};
 ghost use Rattle.zs_scan.specs.Steps.{blank_scan};
 ghost use Rattle.zs_machine.specs.Steps.{TaskStep, blank_state, empty_txg, committed_reply, finished_line, begun_sync, halted};
-ghost use Rattle.zs_machine.specs.Writes.{AreStagedBlocks, AreInRoom};
+ghost use Rattle.zs_machine.specs.Writes.{AreStagedBlocks, AreInRoom, AreApart};
 ghost use Rattle.zs_machine.specs.Replies.{task_reply, after_queued};
 ghost use Rattle.zs_core.specs.Calls.{IsPlain};
 ghost use Rattle.zs_machine.specs.Shapes.{IsShape, IsLeast, data_start, room_in};
@@ -142,6 +142,13 @@ impl Present {
         self.scan.run().paused
     }
 
+    /// The numbers that the pool was made with.
+    pub(crate) fn shape(&self) -> &Shape
+        ensures { result.now ≡ self.now.shape }
+    {
+        &self.shape
+    }
+
     /// The scan.
     pub(crate) fn scan(&self) -> &Scan
         ensures { result.now ≡ self.now.scan }
@@ -185,6 +192,7 @@ impl Present {
         ensures was { OnOk result (self.old.state.closed ≡ None) }
         ensures blocks { IfOk result (λ blocks. AreStagedBlocks self.old.state.graph self.old.state.open_txg blocks.items) }
         ensures within { IfOk result (λ blocks. AreInRoom (room_in self.old.shape self.old.end_sector 0) blocks.items) }
+        ensures apart { IfOk result (λ blocks. AreApart blocks.items) }
         ensures step { OnOk result (self.new.state ≡ begun_sync self.old.state) }
         ensures pointers { IfOk result (λ blocks. self.new.pointers ≡ pointers_of blocks.items) }
         ensures rest { OnOk result (self.new ≡ record self.old { state = self.new.state; pointers = self.new.pointers }) }

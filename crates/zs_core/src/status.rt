@@ -9,7 +9,7 @@ ghost use Rattle.zs_core.specs.View.{graph_of};
 use crate::heads::Heads;
 use crate::present::Present;
 use std::alloc::{AllocError, Global};
-use zs_ids::{DsId, DsName, Name, Seq};
+use zs_ids::{Boxed, DsId, DsName, Name, Seq};
 use zs_phys::{At, Kind, Status, Todo};
 use zs_scan::Scan;
 use zs_script::{Refusal, Reply, ScanKind, ScanState, ScanStatus, TodoEntry, WalkPlace, Walking};
@@ -118,14 +118,18 @@ fn walking_of(alloc: Global, heads: &Heads, scan: &Scan) -> Result<Option<Walkin
 }
 
 /// How the scan stands, where there was one.
-fn status_of(alloc: Global, heads: &Heads, scan: &Scan) -> Result<Option<ScanStatus>, AllocError>
+fn status_of(
+    alloc: Global,
+    heads: &Heads,
+    scan: &Scan,
+) -> Result<Option<Boxed<ScanStatus>>, AllocError>
     ensures { IfOk result (λ s. s ≡ status_with (graph_of heads.now.head) scan.now (state_word scan.now.run.status scan.now.run.paused)) }
 {
     let Some(state) = state_word(scan.run().status, scan.run().paused) else {
         return Ok(None);
     };
     let walking = walking_of(alloc, heads, scan)?;
-    Ok(Some(ScanStatus {
+    let status = ScanStatus {
         kind: kind_word(scan.scope().kind),
         state,
         checked: counted(scan.ledger().len()),
@@ -133,7 +137,8 @@ fn status_of(alloc: Global, heads: &Heads, scan: &Scan) -> Result<Option<ScanSta
         waiting: scan.waiting(),
         flight: counted(scan.flying()),
         walking,
-    }))
+    };
+    Ok(Some(Boxed::new(alloc, status)?))
 }
 
 impl Present {

@@ -1,7 +1,8 @@
 //! The pool's own calls with ample memory, on two devices of 512 sectors.
 
 ghost use Rattle.std.specs.Prelude.{◌≡◌, ◌∷◌, [], IfOk, OnOk, false};
-ghost use Rattle.zs_ledger.specs.declared.entry.CopyResult.TheVariants.{Good, Missing};
+ghost use Rattle.zs_ledger.specs.declared.entry.CopyResult.TheVariants.{Good, Fault, Missing};
+ghost use Rattle.zs_ledger.specs.Entry.{AreCopies};
 ghost use Rattle.zs_machine.specs.Shapes.{IsShape};
 ghost use Rattle.zs_core.specs.Calls.{IsPoolCommand};
 ghost use Rattle.zs_machine.specs.Told.{line_steps};
@@ -10,7 +11,7 @@ ghost use Rattle.zs_core.specs.View.{KeepsCourse};
 use crate::{Event, Pool, PoolFault, ReadPlan, Shape, Stage, Step, Verdicts};
 use std::alloc::{AllocError, Global};
 use std::test::Fail;
-use zs_ids::{DsName, Item, Name, Seq};
+use zs_ids::{DsName, Item, Marks, Name, Seq};
 use zs_ledger::{CopyResult, Entry};
 use zs_objset::StagedBlock;
 use zs_scan::Turn;
@@ -26,6 +27,32 @@ const A: Name = Name {
 const HEAD: DsName = DsName {
     owner: A,
     label: Name::EMPTY,
+};
+
+/// The places of a read that has read no copy.
+const NO_READS: [u64; 12] = [u64::MAX; 12];
+
+/// The marks of a sync on two devices whose journals have three calls each.
+const MARKS: Marks = Marks {
+    failed: 0,
+    places: [
+        2,
+        2,
+        u64::MAX,
+        u64::MAX,
+        u64::MAX,
+        u64::MAX,
+        u64::MAX,
+        u64::MAX,
+        u64::MAX,
+        u64::MAX,
+        u64::MAX,
+        u64::MAX,
+        u64::MAX,
+        u64::MAX,
+        u64::MAX,
+        u64::MAX,
+    ],
 };
 
 /// The numbers of a pool of one mirror of two devices.
@@ -60,7 +87,7 @@ fn replies(
 
 /// Ends a client's read of a record whose fill 5 is staged, and answers whether there was one.
 fn ends_read(pool: &mut Pool, by: u8) -> Result<bool, Fail> {
-    match pool.read_end(by, ReadPlan::Staged(5), None)? {
+    match pool.read_end(by, ReadPlan::Staged(5), None, &NO_READS)? {
         Some(_) => Ok(true),
         None => Ok(false),
     }
@@ -74,7 +101,7 @@ fn end_sync(pool: &mut Pool) -> Result<(), Fail>
     ensures up { OnOk result (pool.new.core.state.suspended ≡ false) }
     ensures fresh { OnOk result (line_steps pool.old.history ≡ [] → line_steps pool.new.history ≡ []) }
 {
-    pool.end_data()?;
+    pool.end_data(&MARKS)?;
     pool.committed()?;
     Ok(())
 }
@@ -161,7 +188,7 @@ fn a_pool_is_made_and_committed(rt: HostRuntime) -> Result<(), Fail> {
     let mut pool = Pool::blank(rt.alloc(), shape(rt.alloc())?)?;
     assert!(rt; pool.stage() == Stage::Writing && !pool.is_suspended());
     assert_eq!(rt; pool.history().len(), 1);
-    pool.end_data()?;
+    pool.end_data(&MARKS)?;
     assert!(rt; pool.stage() == Stage::Labelling);
     pool.committed()?;
     pool.facts();
@@ -214,10 +241,21 @@ fn are_first_blocks(blocks: &[StagedBlock]) -> bool {
 fn born(history: &[Event]) -> usize {
     match history {
         [.., before, _] => match &before.step {
-            Step::EndData { items, .. } => items.len(),
+            Step::EndData { items, .. } => items.get().len(),
             _ => usize::MAX,
         },
         _ => usize::MAX,
+    }
+}
+
+/// The place that the last but one event tells of the second device, where it is the end of a sync's data.
+fn marked(history: &[Event]) -> u64 {
+    match history {
+        [.., before, _] => match &before.step {
+            Step::EndData { marks, .. } => marks.get().places[1],
+            _ => u64::MAX,
+        },
+        _ => u64::MAX,
     }
 }
 
@@ -238,6 +276,7 @@ fn a_sync_answers_the_blocks_that_are_staged(rt: HostRuntime) -> Result<(), Fail
     assert!(rt; begins(&mut pool)?);
     end_sync(&mut pool)?;
     assert_eq!(rt; born(pool.history()), 3);
+    assert_eq!(rt; marked(pool.history()), 2);
     Ok(())
 }
 
@@ -302,9 +341,41 @@ fn reads_end_by_client_and_plan(rt: HostRuntime) -> Result<(), Fail> {
     Ok(())
 }
 
-/// What was found of an item whose two copies are good.
-fn entry_of(item: &Item) -> Entry
-    ensures { result.copies ≡ Good ∷ Good ∷ Missing ∷ Missing ∷ [] }
+/// Ends a client's read in which no copy was had, at these places, and answers whether its reply says so.
+fn loses_read(alloc: Global, pool: &mut Pool, by: u8, places: &[u64; 12]) -> Result<bool, Fail> {
+    let plan = pool.read_begin(by, &HEAD, 1, 0)?;
+    match pool.read_end(by, plan, None, places)? {
+        Some(reply) => Ok(text(alloc, 0, &reply)?.as_slice() == "refused ReadLost\n".as_bytes()),
+        None => Ok(false),
+    }
+}
+
+/// The place that the last event tells of the second copy, where it is the end of a read.
+fn place_read(history: &[Event]) -> u64 {
+    match history.last() {
+        Some(last) => match &last.step {
+            Step::ReadEnd(_, places) => places.get()[1],
+            _ => u64::MAX,
+        },
+        None => u64::MAX,
+    }
+}
+
+#[test]
+fn a_lost_read_tells_its_places(rt: HostRuntime) -> Result<(), Fail> {
+    let alloc = rt.alloc();
+    let mut pool = with_record(alloc)?;
+    sync(&mut pool)?;
+    let mut places = NO_READS;
+    places[1] = 5;
+    assert!(rt; loses_read(alloc, &mut pool, 1, &places)?);
+    assert_eq!(rt; place_read(pool.history()), 5);
+    Ok(())
+}
+
+/// What was found of an item whose second copy was this.
+fn entry_of(item: &Item, second: CopyResult) -> Entry
+    ensures { result.copies ≡ Good ∷ second ∷ Missing ∷ Missing ∷ [] }
 {
     Entry {
         piece: item.piece,
@@ -312,7 +383,7 @@ fn entry_of(item: &Item) -> Entry
         sum: item.sum,
         copies: [
             CopyResult::Good,
-            CopyResult::Good,
+            second,
             CopyResult::Missing,
             CopyResult::Missing,
         ],
@@ -321,11 +392,13 @@ fn entry_of(item: &Item) -> Entry
 }
 
 /// Gives a batch of one piece its verdict under a number, and answers how many entries were made.
-fn judged(alloc: Global, pool: &mut Pool, number: u64, item: &Item) -> Result<usize, Fail> {
+fn judged(alloc: Global, pool: &mut Pool, number: u64, entry: Entry) -> Result<usize, Fail>
+    requires { AreCopies 2 entry.copies }
+{
     if pool.scan().scope().width != 2 {
         return Ok(usize::MAX);
     }
-    let entries = Vec::from_array(alloc, [entry_of(item)])?;
+    let entries = Vec::from_array(alloc, [entry])?;
     let verdicts = Verdicts {
         number,
         entries: Seq::from_vec(entries),
@@ -363,13 +436,52 @@ fn verdicts(alloc: Global, pool: &mut Pool) -> Result<(usize, usize, usize), Fai
     let batch = pool.hold(0, 0, 1)?;
     match batch.items.as_slice() {
         [item] => {
-            let other = judged(alloc, pool, 99, item)?;
-            let own = judged(alloc, pool, batch.number, item)?;
-            let again = judged(alloc, pool, batch.number, item)?;
+            let entry = entry_of(item, CopyResult::Good);
+            let other = judged(alloc, pool, 99, entry)?;
+            let own = judged(alloc, pool, batch.number, entry)?;
+            let again = judged(alloc, pool, batch.number, entry)?;
             Ok((other, own, again))
         }
         _ => Err(Fail::from(PoolFault::Memory)),
     }
+}
+
+/// Takes the lowest piece, and gives it a verdict by which its second copy's device failed.
+fn damages(alloc: Global, pool: &mut Pool) -> Result<usize, Fail> {
+    if pool.is_suspended() {
+        return Err(Fail::from(PoolFault::Memory));
+    }
+    let batch = pool.hold(0, 0, 1)?;
+    match batch.items.as_slice() {
+        [item] => judged(alloc, pool, batch.number, entry_of(item, CopyResult::Fault)),
+        _ => Err(Fail::from(PoolFault::Memory)),
+    }
+}
+
+#[test]
+fn no_piece_is_damaged_without_a_scan(rt: HostRuntime) -> Result<(), Fail> {
+    let alloc = rt.alloc();
+    let mut pool = made(alloc)?;
+    assert!(rt; replies(alloc, &mut pool, 0, &Command::Errors, "errors 0\n")?);
+    Ok(())
+}
+
+#[test]
+fn a_damaged_piece_is_told(rt: HostRuntime) -> Result<(), Fail> {
+    let alloc = rt.alloc();
+    let mut pool = scanning(alloc)?;
+    walked(&mut pool)?;
+    assert_eq!(rt; damages(alloc, &mut pool)?, 1);
+    assert!(rt;
+        replies(
+            alloc,
+            &mut pool,
+            0,
+            &Command::Errors,
+            "errors 1\nerror 0 296 3 GF\n"
+        )?
+    );
+    Ok(())
 }
 
 /// How many turns a scrub of one record makes, and how many pieces wait then.
@@ -416,11 +528,51 @@ fn a_finish_without_a_scan_is_a_line(rt: HostRuntime) -> Result<(), Fail> {
     assert!(rt;
         match pool.history() {
             [_, _, _, last] => match &last.step {
-                Step::Line(Command::Finish) => true,
+                Step::Line(line) => *line.get() == Command::Finish,
                 _ => false,
             },
             _ => false,
         }
     );
+    Ok(())
+}
+
+/// Ends a `rot` line of the first device, and answers whether its range lies in the space.
+fn rots(pool: &mut Pool, sector: u32, count: u32) -> Result<bool, Fail>
+    requires up { pool.old.core.state.suspended ≡ false }
+    requires fresh { line_steps pool.old.history ≡ [] }
+{
+    pool.facts();
+    let rot = Command::Rot {
+        dev: 0,
+        sector,
+        count,
+    };
+    if pool.shape().is_in_space(sector, count) {
+        let reply = Reply::Rotted {
+            dev: 0,
+            sector,
+            count,
+        };
+        pool.line(0, &rot, reply)?;
+        Ok(true)
+    } else {
+        pool.line(0, &rot, Reply::Refused(Refusal::OutOfRange))?;
+        Ok(false)
+    }
+}
+
+/// Whether a `rot` of the range lies in the space of a pool that was made.
+fn rots_in(alloc: Global, sector: u32, count: u32) -> Result<bool, Fail> {
+    let mut pool = made(alloc)?;
+    rots(&mut pool, sector, count)
+}
+
+#[test]
+fn a_rot_is_a_line_in_the_space_and_out_of_it(rt: HostRuntime) -> Result<(), Fail> {
+    let alloc = rt.alloc();
+    assert!(rt; rots_in(alloc, 296, 216)?);
+    assert!(rt; !rots_in(alloc, 295, 1)?);
+    assert!(rt; !rots_in(alloc, 296, 217)?);
     Ok(())
 }

@@ -46,4 +46,12 @@ impl<T: Drop> Boxed<T> {
             inner: Box::new(alloc, value)?,
         })
     }
+
+    /// Puts a value in the place of the one there. Takes no memory: so what is known only later can stand behind a
+    /// pointer that was had before.
+    pub fn set(&mut self, value: T)
+        ensures { self.new ≡ value }
+    {
+        *self.inner = value;
+    }
 }

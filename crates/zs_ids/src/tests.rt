@@ -123,8 +123,10 @@ fn a_boxed_list_is_seen_as_the_list(rt: HostRuntime) -> Result<(), Fail> {
     let told = many(alloc, Seq::from_slice(alloc, &[piece, piece])?)?;
     assert_eq!(rt; count(&told), 2);
     assert_eq!(rt; count(&Told::Few(3)), 3);
-    let boxed = Boxed::new(alloc, piece)?;
+    let mut boxed = Boxed::new(alloc, piece)?;
     assert_eq!(rt; *boxed.get(), piece);
-    assert_eq!(rt; boxed.into_inner(), piece);
+    let later = Piece { birth: 5, ..piece };
+    boxed.set(later);
+    assert_eq!(rt; boxed.into_inner(), later);
     Ok(())
 }

@@ -1,5 +1,5 @@
 -- A scan that is reported as finished has checked all.
-use Rattle.std.specs.Prelude.{◌≡◌, ◌==◌, ◌||◌, ◌⊎◌, ℕ, ◌+◌, Bool, true, false, if◌then◌else◌, List, [], ◌∷◌, ◌++◌, drop, filter, length, unwrap_or, Option, Some, None, refl}
+use Rattle.std.specs.Prelude.{◌≡◌, ◌==◌, ◌||◌, ℕ, ◌+◌, Bool, true, false, if◌then◌else◌, List, [], ◌∷◌, ◌++◌, drop, filter, length, unwrap_or, Option, Some, None, refl}
 use Rattle.std.proofs.Common.{◌∙◌, sym, ap, subst, inl, inr}
 use Rattle.zs_ids.specs.declared.block.Item.{Item}
 use Rattle.zs_ids.specs.Graph.{Dataset}
@@ -23,13 +23,13 @@ use Rattle.zs_machine.specs.declared.event.ReadPlan.TheVariants as plan
 use Rattle.zs_machine.specs.declared.event.Step.{Step}
 use Rattle.zs_machine.specs.declared.event.Step.TheVariants as step
 use Rattle.zs_machine.specs.declared.event.Stage.TheVariants as stages
-use Rattle.zs_machine.specs.History.{Full, FullSteps, Run, IsHistory}
+use Rattle.zs_machine.specs.History.{Full, Run, IsHistory}
 use Rattle.zs_machine.specs.Laws.{finished_in, HasCheckedAll}
 use Rattle.zs_machine.specs.Machine.{PoolState, dataset_named, is_running}
 use Rattle.zs_machine.specs.Replies.{make_refusal, write_refusal, read_refusal, task_reply, after_queued}
 use Rattle.zs_machine.specs.Status.{counted, kind_word}
-use Rattle.zs_machine.specs.Steps.{Steps, CommandStep, LineStep, MakeStep, WriteStep, TaskStep, VerdictStep, ReadBeginStep, IsReadAnswer, DataStep, Begins, with_checked, begun_sync, halted, committed_reply, finished_line}
-use Rattle.zs_machine.specs.Told.{Tells, AreTold}
+use Rattle.zs_machine.specs.Steps.{Steps, CommandStep, LineStep, MakeStep, WriteStep, TaskStep, VerdictStep, ReadBeginStep, IsReadAnswer, DataStep, Begins, with_checked, committed_reply, finished_line}
+use Rattle.zs_machine.specs.Told.{AreTold}
 
 -- while a sync has applied its data and is not committed, a scan that came to its end in it has checked all
 abbrev IsWhole : PoolState → Type 0
@@ -81,6 +81,7 @@ command_keeps s t by command.Scrub answer whole is = queued_keeps s t by _ answe
 command_keeps s t by (command.Make ds object levels size fill) answer whole is = made_keeps s t ds object size fill answer whole is
 command_keeps s t by (command.Write ds object leaf fill) answer whole is = written_keeps s t ds object leaf fill answer whole is
 command_keeps s t by command.Status answer whole is = same s t whole is.1
+command_keeps s t by command.Errors answer whole is = same s t whole is.1
 command_keeps s t by _ answer whole is = absurd is
 
 -- entries come only while a scan runs
@@ -126,11 +127,11 @@ keeps s t by (step.Walk turn) answer whole is = same s t whole is.2
 keeps s t by (step.Hold number vdev online pieces) answer whole is = same s t whole is.3
 keeps s t by (step.Verdict number pieces entries) answer whole is = verdict_keeps s t entries whole is.1
 keeps s t by step.BeginSync answer whole is = closes s t by answer whole is
-keeps s t by (step.EndData online items) answer whole is = data_keeps s t items is.3
+keeps s t by (step.EndData online marks items) answer whole is = data_keeps s t items is.4
 keeps s t by (step.Committed online) answer whole is = subst (λ (x : PoolState). IsWhole x) (sym is.4) (λ labelling ended. absurd cc)
 keeps s t by (step.Suspend online why) answer whole is = subst (λ (x : PoolState). IsWhole x) (sym is.4) (λ labelling ended. absurd cc)
 keeps s t by (step.ReadBegin c planned) answer whole is = read_keeps s t by c planned answer whole is
-keeps s t by (step.ReadEnd p) answer whole is = subst (λ (x : PoolState). IsWhole x) (sym is.closed) whole
+keeps s t by (step.ReadEnd p places) answer whole is = subst (λ (x : PoolState). IsWhole x) (sym is.closed) whole
 keeps s t by (step.Made c) answer whole is = absurd is
 
 -- at the start no scan came to its end
@@ -203,6 +204,7 @@ module _ (txg : ℕ) (answers : List (Option Refusal)) (f : Finished) where
   not_command s t by (command.Make ds object levels size fill) is = not_made s t ds object size fill is
   not_command s t by (command.Write ds object leaf fill) is = not_written s t ds object leaf fill is
   not_command s t by command.Status is = is.0
+  not_command s t by command.Errors is = is.0
   not_command s t by _ is = is
 
   not_line : (s : PoolState) (c : Command) → LineStep s c answer → ⊥
@@ -237,11 +239,11 @@ module _ (txg : ℕ) (answers : List (Option Refusal)) (f : Finished) where
   reports s t by (step.Hold number vdev online pieces) is = absurd (other _ is.0 refl)
   reports s t by (step.Verdict number pieces entries) is = absurd (other _ is.0 refl)
   reports s t by step.BeginSync is = absurd (other _ is.0 refl)
-  reports s t by (step.EndData online items) is = absurd (other _ is.0 refl)
+  reports s t by (step.EndData online marks items) is = absurd (other _ is.0 refl)
   reports s t by (step.Committed online) is = (is.0, is.3)
   reports s t by (step.Suspend online why) is = absurd (other _ is.0 refl)
   reports s t by (step.ReadBegin c planned) is = absurd (not_read s t by c planned is)
-  reports s t by (step.ReadEnd p) is = absurd (not_ended is.read p is.answers)
+  reports s t by (step.ReadEnd p places) is = absurd (not_ended is.read p is.answers)
   reports s t by (step.Made c) is = absurd is
 
   -- so what it tells is the line of the scan that came to its end

@@ -1,6 +1,6 @@
 -- A history goes on by one event.
 use Rattle.std.specs.Prelude.{◌≡◌, List, [], ◌∷◌, ◌++◌, refl}
-use Rattle.std.proofs.Common.{sym, ◌∙◌, ap, subst, append_assoc, append-nil, arith}
+use Rattle.std.proofs.Common.{sym, ◌∙◌, ap, subst, append_assoc, append-nil}
 use Rattle.zs_machine.specs.declared.event.Event.{Event}
 use Rattle.zs_machine.specs.Machine.{PoolState}
 use Rattle.zs_machine.specs.Steps.{Steps}

@@ -1,5 +1,5 @@
 -- What follows from the numbers that a pool is made with.
-use Rattle.std.specs.Prelude.{◌≡◌, ◌≤◌, ◌<◌, ◌+◌, ℕ, slice_index}
+use Rattle.std.specs.Prelude.{◌≡◌, ◌≤◌, ◌+◌, ℕ, slice_index}
 use Rattle.std.proofs.Common.{arith}
 use Rattle.zs_machine.specs.declared.shape.Shape.{Shape}
 use Rattle.zs_machine.specs.Shapes.{IsShape, IsLeast, data_start}

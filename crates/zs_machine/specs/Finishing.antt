@@ -1,6 +1,6 @@
 -- Which steps a `finish` makes: what is in flight has its verdicts; then the walk makes turns, and all that waits is checked, as
 -- often as a turn is refused and once more when none is left; then comes one sync.
-use Rattle.std.specs.Prelude.{◌≡◌, ◌==◌, ◌+◌, nat_lt, ℕ, Bool, true, false, if◌then◌else◌, List, [], ◌∷◌, fold}
+use Rattle.std.specs.Prelude.{◌==◌, ◌+◌, nat_lt, ℕ, Bool, true, false, if◌then◌else◌, List, [], ◌∷◌, fold}
 use Rattle.zs_ids.specs.declared.block.Piece.{Piece}
 use Rattle.zs_scan.specs.declared.batch.Turn.{Turn}
 use Rattle.zs_scan.specs.declared.batch.Turn.TheVariants as turns
@@ -52,7 +52,7 @@ phase_after (drained false least) (step.Walk turn) = walked turn
 phase_after (drained false least) (step.Hold number vdev online pieces) = held false vdev number pieces
 phase_after (drained true least) (step.Hold number vdev online pieces) = if nat_lt vdev least then strayed else held true vdev number pieces
 phase_after (drained true least) step.BeginSync = closing
-phase_after closing (step.EndData online items) = applying
+phase_after closing (step.EndData online marks items) = applying
 phase_after applying (step.Committed online) = ended
 phase_after _ _ = strayed
 

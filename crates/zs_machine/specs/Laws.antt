@@ -1,5 +1,5 @@
 -- The laws of histories.
-use Rattle.std.specs.Prelude.{◌≡◌, ℕ, List, [], ◌∷◌, ◌++◌, filter, length, Option, Some, None}
+use Rattle.std.specs.Prelude.{◌≡◌, List, [], ◌∷◌, ◌++◌, filter, length, Option, Some, None}
 use Rattle.zs_ledger.specs.Entry.{has_error}
 use Rattle.zs_phys.specs.declared.phys.Status.TheVariants as statuses
 use Rattle.zs_script.specs.declared.reply.Finished.{Finished}

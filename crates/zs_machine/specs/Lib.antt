@@ -5,9 +5,11 @@ pub mod Finishing
 pub mod Writes
 pub mod Replies
 pub mod Status
+pub mod Errors
 pub mod Steps
 pub mod Told
 pub mod Commands
 pub mod History
+pub mod Matches
 pub mod Shapes
 pub mod Laws

@@ -1,20 +1,10 @@
 -- What `status` tells of a pool, as far as the machine has it.
-use Rattle.std.specs.Prelude.{◌≡◌, ℕ, Bool, true, false, if◌then◌else◌, map, filter, length, min, Option, Some, None}
-use Rattle.zs_ids.specs.declared.dataset.DsName.{DsName}
-use Rattle.zs_ids.specs.declared.dataset.TheConstants.Name.{EMPTY}
-use Rattle.zs_ids.specs.Graph.{Dataset, Graph}
-use Rattle.zs_ids.specs.GraphTree.{dataset_at}
+use Rattle.std.specs.Prelude.{◌≡◌, ℕ, Bool, true, false, if◌then◌else◌, filter, length, min, Option, Some, None}
 use Rattle.zs_ledger.specs.Entry.{has_error}
 use Rattle.zs_phys.specs.declared.scope.Kind.{Kind}
 use Rattle.zs_phys.specs.declared.scope.Kind.TheVariants as kinds
-use Rattle.zs_phys.specs.declared.phys.Phys.{Phys}
-use Rattle.zs_phys.specs.declared.phys.At.{At}
-use Rattle.zs_phys.specs.declared.phys.At.TheVariants as ats
 use Rattle.zs_phys.specs.declared.phys.Status.{Status}
 use Rattle.zs_phys.specs.declared.phys.Status.TheVariants as statuses
-use Rattle.zs_phys.specs.declared.todos.Todo.{Todo}
-use Rattle.zs_walk.specs.Walking.{runs}
-use Rattle.zs_scan.specs.View.{ScanView, is_flying}
 use Rattle.zs_script.specs.declared.refusal.Refusal.TheVariants.{Suspended}
 use Rattle.zs_script.specs.declared.reply.Reply.{Reply}
 use Rattle.zs_script.specs.declared.reply.Reply.TheVariants as reply
@@ -23,10 +13,6 @@ use Rattle.zs_script.specs.declared.reply.ScanKind.TheVariants as scan_kinds
 use Rattle.zs_script.specs.declared.reply.ScanState.{ScanState as StateWord}
 use Rattle.zs_script.specs.declared.reply.ScanState.TheVariants as words
 use Rattle.zs_script.specs.declared.reply.ScanStatus.{ScanStatus}
-use Rattle.zs_script.specs.declared.reply.TodoEntry.{TodoEntry}
-use Rattle.zs_script.specs.declared.reply.Walking.{Walking}
-use Rattle.zs_script.specs.declared.reply.WalkPlace.{WalkPlace}
-use Rattle.zs_script.specs.declared.reply.WalkPlace.TheVariants as places
 use Rattle.zs_machine.specs.Machine.{PoolState, ScanState}
 
 -- a count as a reply tells it: it stands still at its type's end

@@ -42,6 +42,7 @@ use Rattle.zs_scan.specs.Walks.{item_of}
 use Rattle.zs_scan.specs.Covered.{MayBeChecked, AllAreChecked}
 use Rattle.zs_scan.specs.Steps.{no_scope}
 use Rattle.zs_machine.specs.Status.{TellsStatus, kind_word, counted}
+use Rattle.zs_machine.specs.Errors.{TellsErrors}
 use Rattle.zs_machine.specs.declared.event.OpenRead.{OpenRead}
 use Rattle.zs_machine.specs.Machine.{PoolState, Txg, Data, ScanState, dataset_named, staged_record, record_sectors, is_running, is_at_work}
 use Rattle.zs_machine.specs.Replies.{task_reply, after_queued, make_refusal, write_refusal, read_refusal, task_answers, after_tasks}
@@ -110,11 +111,13 @@ CommandStep s by command.Scrub answer t = TaskStep s by task.Scrub answer t
 CommandStep s by (command.Make ds object levels size fill) answer t = MakeStep s ds object size fill answer t
 CommandStep s by (command.Write ds object leaf fill) answer t = WriteStep s ds object leaf fill answer t
 CommandStep s by command.Status answer t = TellsStatus s answer × (t ≡ s)
+CommandStep s by command.Errors answer t = TellsErrors s answer × (t ≡ s)
 CommandStep s by _ answer t = ⊥
 
 -- a line whose events stand before it, with its reply: what a `sync` and a `finish` did is told by the replies of those
 -- events, and both end between syncs; a `finish` comes to an end where no scan runs unpaused, or no transaction group is
--- left. A pool that is suspended refuses each line
+-- left. A `rot` is of a device that the pool has; whether its range lies in the space, and what the device does, is left
+-- open. A pool that is suspended refuses each line
 abbrev pub LineStep : PoolState → Command → Reply → Type 0
 LineStep s c (reply.Refused refusal.Suspended) = s.suspended ≡ true
 LineStep s command.Finish (reply.Refused refusal.NoScan) = (s.suspended ≡ false) × (is_running s.scan ≡ false)
@@ -126,6 +129,11 @@ LineStep s (command.Walk n) (reply.Walked turns why waiting) = (s.suspended ≡ 
 LineStep s (command.Issue vdev n) (reply.Issued v pieces) = (s.suspended ≡ false) × (v ≡ vdev)
 LineStep s (command.Hold vdev n) (reply.Held v sectors) = (s.suspended ≡ false) × (v ≡ vdev)
 LineStep s command.Land (reply.Landed entries pieces) = s.suspended ≡ false
+LineStep s (command.Rot dev sector count) (reply.Rotted d first many) =
+    (s.suspended ≡ false) × (dev < s.devices) × (d ≡ dev) × (first ≡ sector) × (many ≡ count)
+LineStep s (command.Rot dev sector count) (reply.Refused refusal.NoDevice) = (s.suspended ≡ false) × (s.devices ≤ dev)
+LineStep s (command.Rot dev sector count) (reply.Refused refusal.OutOfRange) = (s.suspended ≡ false) × (dev < s.devices)
+LineStep s (command.Rot dev sector count) (reply.Refused refusal.DeviceFault) = (s.suspended ≡ false) × (dev < s.devices)
 LineStep s c _ = ⊥
 
 -- the state with an entry more
@@ -313,8 +321,8 @@ IsSyncing stage.Labelling = Unit {0}
 abbrev pub halted : PoolState → PoolState
 halted s = record s { suspended = true; stage = stage.Between }
 
--- one step of the machine. A pool that is suspended takes no turn and no batch, and makes no sync; what was read from its
--- devices by then may still come in
+-- one step of the machine. No device fails in the writes of a sync's data. A pool that is suspended takes no turn and no
+-- batch, and makes no sync; what was read from its devices by then may still come in
 abbrev pub Steps : PoolState → Event → PoolState → Type 0
 Steps s e t = steps e.step e.reply
   where
@@ -331,8 +339,8 @@ Steps s e t = steps e.step e.reply
     steps step.BeginSync answer =
         (answer ≡ reply.Nothing) × (s.suspended ≡ false) × (s.stage ≡ stage.Between) × (s.closed ≡ None) × (s.open_txg.txg < TXG_END)
         × (t ≡ begun_sync s)
-    steps (step.EndData online items) answer =
-        (answer ≡ reply.Nothing) × (s.suspended ≡ false) × (online ≡ s.online) × DataStep s items t
+    steps (step.EndData online marks items) answer =
+        (answer ≡ reply.Nothing) × (s.suspended ≡ false) × (online ≡ s.online) × (marks.failed ≡ 0) × DataStep s items t
     steps (step.Committed online) answer =
         (answer ≡ committed_reply s) × (s.suspended ≡ false) × (online ≡ s.online) × (s.stage ≡ stage.Labelling)
         × (t ≡ record s { stage = stage.Between })
@@ -340,5 +348,5 @@ Steps s e t = steps e.step e.reply
         (answer ≡ reply.Nothing) × (s.suspended ≡ false) × (online ≡ s.online) × IsSyncing s.stage × (t ≡ halted s)
     steps (step.ReadBegin (command.Read ds object leaf) planned) answer = ReadBeginStep s e.by ds object leaf planned answer t
     steps (step.ReadBegin c planned) answer = ⊥
-    steps (step.ReadEnd p) answer = ReadEndStep s e.by p answer t
+    steps (step.ReadEnd p places) answer = ReadEndStep s e.by p answer t
     steps (step.Made c) answer = ⊥

@@ -52,7 +52,7 @@ is_of_line _ = false
 
 -- a sync goes on
 abbrev pub is_of_sync : Step → Bool
-is_of_sync (step.EndData online items) = true
+is_of_sync (step.EndData online marks items) = true
 is_of_sync (step.Committed online) = true
 is_of_sync _ = false
 
@@ -128,7 +128,7 @@ TellsLand steps made shown =
 -- a `sync` made one sync: it was refused, or its data were written and it was committed
 abbrev pub TellsSync : List Step → Type 0
 TellsSync (step.BeginSync ∷ []) = Unit {0}
-TellsSync (step.BeginSync ∷ step.EndData online items ∷ step.Committed mask ∷ []) = Unit {0}
+TellsSync (step.BeginSync ∷ step.EndData online marks items ∷ step.Committed mask ∷ []) = Unit {0}
 TellsSync _ = ⊥
 
 -- what the reply to a line tells of the line's steps

@@ -1,6 +1,6 @@
 //! What a pool's history is made of.
 
-use zs_ids::{DsName, Item, Piece, Seq};
+use zs_ids::{Boxed, DsName, Item, Marks, Piece, Seq};
 use zs_ledger::Entry;
 use zs_objset::CommitFault;
 use zs_scan::Turn;
@@ -43,13 +43,13 @@ pub struct OpenRead {
     pub plan: ReadPlan,
 }
 
-/// What happened to a pool.
+/// What happened to a pool. What is large stands behind a pointer, so that an event without a list is small.
 #[derive(Debug, Drop)]
 pub enum Step {
     /// A command staged a record, queued a task, or was refused.
-    Command(Command),
+    Command(Boxed<Command>),
     /// A line ended whose events stand before this one.
-    Line(Command),
+    Line(Boxed<Command>),
     /// The walk made a turn.
     Walk(Turn),
     /// A batch of pieces was taken to be checked.
@@ -61,16 +61,16 @@ pub enum Step {
         /// The devices that were online.
         online: u32,
         /// Its pieces.
-        pieces: Seq<Piece>,
+        pieces: Boxed<Seq<Piece>>,
     },
     /// A batch was checked.
     Verdict {
         /// The batch.
         number: u64,
         /// Its pieces; none where no such batch was in flight.
-        pieces: Seq<Piece>,
+        pieces: Boxed<Seq<Piece>>,
         /// The entries that were made of it.
-        entries: Seq<Entry>,
+        entries: Boxed<Seq<Entry>>,
     },
     /// The open transaction group was closed.
     BeginSync,
@@ -78,8 +78,10 @@ pub enum Step {
     EndData {
         /// The devices that were online.
         online: u32,
+        /// The devices that failed or were offline, and where each journal has the last call of the sync's data.
+        marks: Boxed<Marks>,
         /// The pieces that were born in the transaction group and live, in order of place.
-        items: Seq<Item>,
+        items: Boxed<Seq<Item>>,
     },
     /// The transaction group is committed.
     Committed {
@@ -94,11 +96,12 @@ pub enum Step {
         why: CommitFault,
     },
     /// A read began, with its plan where it was not refused.
-    ReadBegin(Command, Option<ReadPlan>),
-    /// A read ended.
-    ReadEnd(ReadPlan),
+    ReadBegin(Boxed<Command>, Option<Boxed<ReadPlan>>),
+    /// A read ended. For each copy of the piece that was read, the place of its read in the journal of its device:
+    /// `u64::MAX` where it was not read.
+    ReadEnd(Boxed<ReadPlan>, Boxed<[u64; 12]>),
     /// The pool was made.
-    Made(Command),
+    Made(Boxed<Command>),
 }
 
 /// What happened, for whom, and what was replied.

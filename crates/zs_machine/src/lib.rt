@@ -6,8 +6,9 @@
 //! Model: a state (`specs/Machine`), the step that each event makes of it (`specs/Steps`), and histories, which are runs of
 //! such steps (`specs/History`). `specs/Replies` says what each command is answered with and what each task does,
 //! `specs/Status` what `status` tells, `specs/Told` what the reply to a line tells of the events before it, `specs/Finishing`
-//! which steps a `finish` makes, `specs/Flight` what is in flight, `specs/Writes` which blocks a sync writes, `specs/Shapes`
-//! the numbers that a pool is made with, and `specs/Commands` the commands of a history.
+//! which steps a `finish` makes, `specs/Flight` what is in flight, `specs/Writes` which blocks a sync writes, `specs/Errors`
+//! what `errors` tells, `specs/Matches` when the claims of a history are borne out by the journals of its devices,
+//! `specs/Shapes` the numbers that a pool is made with, and `specs/Commands` the commands of a history.
 //! Promise, as laws: a run with one more step is a run; the text of a history is that of its events, one after another;
 //! and a history that reports a scan as finished has had, when it came to its end, an entry for each live piece in
 //! its scope (`laws`). The machine lets a scan end nowhere else.
@@ -22,7 +23,9 @@
 
 pub mod event;
 pub mod laws;
+pub mod letters;
 pub mod shape;
 
 pub use event::{Event, OpenRead, ReadPlan, Stage, Step};
+pub use letters::{letter_of, letters_of};
 pub use shape::{Shape, data_start};

@@ -1,14 +1,15 @@
 //! The numbers that a pool is made with.
 
-ghost use Rattle.std.specs.Prelude.{◌≡◌, ◌≤◌, ◌+◌, ◌*◌, ◌/◌};
-ghost use Rattle.zs_machine.specs.Shapes.{IsShape, IsLeast, data_start};
+ghost use Rattle.std.specs.Prelude.{◌≡◌, ◌≤◌, ◌+◌, ◌*◌, ◌/◌, true, false};
+ghost use Rattle.zs_ids.specs.declared.limits.TheConstants.{BLOCKS};
+ghost use Rattle.zs_machine.specs.Shapes.{IsShape, IsLeast, IsInSpace, data_start};
 
 use zs_ids::Seq;
 
 /// The first sector of the space of a pool that may have so many blocks, at most 65,536: before it stand the labels
 /// and two records.
 pub fn data_start(blocks: u32) -> u32
-    requires { blocks ≤ 65536 }
+    requires { blocks ≤ BLOCKS }
     ensures { result ≡ data_start blocks }
 {
     8 + 2 * (128 + blocks / 4)
@@ -55,5 +56,19 @@ impl Shape {
             }
         }
         end
+    }
+
+    /// Whether the range lies in the space of every device: from the data's start on, and by the end of the least one.
+    pub fn is_in_space(&self, sector: u32, count: u32) -> bool
+        requires { IsShape self.now }
+        ensures inside { result ≡ true → IsInSpace self.now sector count }
+        ensures outside { result ≡ false → IsInSpace self.now sector count → ⊥ }
+    {
+        let start = self.data_start();
+        let end = self.space_end();
+        if sector < start {
+            return false;
+        }
+        u64::from(sector) + u64::from(count) <= u64::from(end)
     }
 }

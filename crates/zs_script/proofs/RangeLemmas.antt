@@ -7,12 +7,13 @@ use Rattle.std.specs.List.{list_all, AllByRecursion}
 use Rattle.std.specs.Option.{option_to_list}
 use Rattle.std.specs.Int.{is_power_of_two}
 use Rattle.zs_ids.specs.declared.dataset.DsName.{DsName}
+use Rattle.zs_ids.specs.declared.limits.TheConstants.{SCRIPT_BYTES}
 use Rattle.zs_script.specs.Faults.{◌>>=◌}
 use Rattle.zs_script.specs.Verbs.{verb_of}
 use Rattle.zs_script.specs.Fields.{digits_from, number_of, size_of, blocks_of, name_of, ds_of}
-use Rattle.zs_script.specs.Rows.{any_number, object_of, levels_of, leaf_of, turns_of, vdev_of, pieces_of, pool_with, pool_of, fs_of, make_with, make_of, write_with, write_of, read_of, walk_of, issue_of, hold_of, alone_of, command_of}
-use Rattle.zs_script.specs.Script.{TextLine, is_skipped, is_text_byte, words_of, is_allowed, with_command, with_line, command_at, command_in, at_line, line_with, line_of, lines_from, some_line, nothing_before, lines_of, script_bytes, parsed_script}
-use Rattle.zs_script.specs.Lines.{IsPool, IsMake, IsRecord, IsWalk, IsBatch, IsFirst, IsLater, IsScript}
+use Rattle.zs_script.specs.Rows.{any_number, object_of, levels_of, leaf_of, turns_of, vdev_of, pieces_of, dev_of, sector_of, sectors_of, pool_with, pool_of, fs_of, make_with, make_of, write_with, write_of, read_of, walk_of, issue_of, hold_of, rot_of, alone_of, command_of}
+use Rattle.zs_script.specs.Script.{TextLine, is_skipped, is_text_byte, words_of, is_allowed, with_command, with_line, command_at, command_in, at_line, line_with, line_of, lines_from, some_line, nothing_before, lines_of, parsed_script}
+use Rattle.zs_script.specs.Lines.{IsPool, IsMake, IsRecord, IsWalk, IsBatch, IsRot, IsFirst, IsLater, IsScript}
 use Rattle.zs_script.specs.declared.command.Command.{Command}
 use Rattle.zs_script.specs.declared.command.Command.TheVariants as commands
 use Rattle.zs_script.specs.declared.command.Line.{Line}
@@ -238,6 +239,30 @@ hold_in command (_ ∷ vdev ∷ pieces ∷ []) h =
     subst IsLater (ok_same (commands.Hold v.0 p.0) command p.2) (batch_fits v.0 p.0 vdev pieces v.1 p.1)
 hold_in command (a ∷ b ∷ c ∷ d ∷ rest) h = cc
 
+rot_fits : (d s c : ℕ) (dev sector count : List ℕ) → dev_of dev ≡ Ok d → sector_of sector ≡ Ok s → sectors_of count ≡ Ok c → IsRot d s c
+rot_fits d s c dev sector count dh sh ch =
+    let dd = number_in 0 255 d dev dh in
+    let ss = number_in 0 2097151 s sector sh in
+    let ks = number_in 1 65536 c count ch in
+    record { most_dev = dd.high_is; most_sector = ss.high_is; least_count = ks.low_is; most_count = ks.high_is }
+
+-- what a `rot` line gives is in range
+rot_in : (command : Command) (words : List (List ℕ)) → rot_of words ≡ Ok command → IsLater command
+unfolding rot_of
+rot_in command [] h = cc
+rot_in command (a ∷ []) h = cc
+rot_in command (a ∷ b ∷ []) h = cc
+rot_in command (a ∷ b ∷ c ∷ []) h = cc
+rot_in command (_ ∷ dev ∷ sector ∷ count ∷ []) h =
+    let kc : ℕ → ℕ → ℕ → Result Command Why = λ d s c. Ok (commands.Rot d s c) in
+    let ks : ℕ → ℕ → Result Command Why = λ d s. sectors_of count >>= kc d s in
+    let kd : ℕ → Result Command Why = λ d. sector_of sector >>= ks d in
+    let d = bind_ok (dev_of dev) kd command h in
+    let s = bind_ok (sector_of sector) (ks d.0) command d.2 in
+    let c = bind_ok (sectors_of count) (kc d.0 s.0) command s.2 in
+    subst IsLater (ok_same (commands.Rot d.0 s.0 c.0) command c.2) (rot_fits d.0 s.0 c.0 dev sector count d.1 s.1 c.1)
+rot_in command (a ∷ b ∷ c ∷ d ∷ e ∷ rest) h = cc
+
 alone_in : (alone command : Command) (words : List (List ℕ)) → alone_of alone words ≡ Ok command → IsLater alone → IsLater command
 unfolding alone_of
 alone_in alone command [] h fit = cc
@@ -275,6 +300,10 @@ command_fits verbs.Land false fs words command may h = cc
 command_fits verbs.Land true fs words command may h = alone_in commands.Land command words h tt
 command_fits verbs.Finish false fs words command may h = cc
 command_fits verbs.Finish true fs words command may h = alone_in commands.Finish command words h tt
+command_fits verbs.Rot false fs words command may h = cc
+command_fits verbs.Rot true fs words command may h = rot_in command words h
+command_fits verbs.Errors false fs words command may h = cc
+command_fits verbs.Errors true fs words command may h = alone_in commands.Errors command words h tt
 command_fits verbs.Status false fs words command may h = cc
 command_fits verbs.Status true fs words command may h = alone_in commands.Status command words h tt
 
@@ -358,5 +387,5 @@ some_fits (line ∷ lines) all fit h = subst IsScript (ok_same (line ∷ lines) 
 pub script_fits : (bytes : List ℕ) (all : List Line) → parsed_script bytes ≡ Ok all → IsScript all
 unfolding parsed_script
 script_fits bytes all h =
-    let r = bind_ok (lines_from 1 nothing_before (lines_of (nat_lt script_bytes (length bytes)) (take script_bytes bytes))) some_line all h in
+    let r = bind_ok (lines_from 1 nothing_before (lines_of (nat_lt SCRIPT_BYTES (length bytes)) (take SCRIPT_BYTES bytes))) some_line all h in
     some_fits r.0 all (lines_fit _ 1 nothing_before r.0 r.1) r.2

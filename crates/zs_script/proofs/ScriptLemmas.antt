@@ -8,7 +8,7 @@ use Rattle.std.specs.Str.Lines.{strip_carriage_return}
 use Rattle.std.proofs.lemmas.List.Splits.{slice_split_first, slice_split_none}
 use Rattle.zs_script.specs.Faults.{◌>>=◌}
 use Rattle.zs_script.specs.Verbs.{verb_of, verb_named, followed_verb}
-use Rattle.zs_script.specs.Rows.{pool_of, fs_of, make_of, write_of, read_of, walk_of, issue_of, hold_of, alone_of, command_of}
+use Rattle.zs_script.specs.Rows.{pool_of, fs_of, make_of, write_of, read_of, walk_of, issue_of, hold_of, rot_of, alone_of, command_of}
 use Rattle.zs_script.specs.Script.{TextLine, lines_of, lines_of_parts, is_allowed, with_line, words_of, is_text_byte, command_at, command_in, at_line, line_of, lines_from, Fails, Gives}
 use Rattle.zs_script.specs.Reading.{lines_left, behind, Passes, Stops}
 use Rattle.zs_script.specs.declared.command.Line.{Line}
@@ -32,7 +32,7 @@ bind_same (Err e) f g h = refl
 
 -- no command takes seven words
 seven : (verb : Verb) (a b c d e f g : List ℕ) (rest : List (List ℕ)) → command_of verb (a ∷ b ∷ c ∷ d ∷ e ∷ f ∷ g ∷ []) ≡ command_of verb (a ∷ b ∷ c ∷ d ∷ e ∷ f ∷ g ∷ rest)
-unfolding command_of pool_of fs_of make_of write_of read_of walk_of issue_of hold_of alone_of
+unfolding command_of pool_of fs_of make_of write_of read_of walk_of issue_of hold_of rot_of alone_of
 seven verbs.Pool a b c d e f g rest = refl
 seven verbs.Fs a b c d e f g rest = refl
 seven verbs.Make a b c d e f g rest = refl
@@ -45,6 +45,8 @@ seven verbs.Issue a b c d e f g rest = refl
 seven verbs.Hold a b c d e f g rest = refl
 seven verbs.Land a b c d e f g rest = refl
 seven verbs.Finish a b c d e f g rest = refl
+seven verbs.Rot a b c d e f g rest = refl
+seven verbs.Errors a b c d e f g rest = refl
 seven verbs.Status a b c d e f g rest = refl
 
 -- so the words from the eighth on make no difference

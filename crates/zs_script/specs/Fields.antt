@@ -5,6 +5,7 @@ use Rattle.std.specs.List.{list_all}
 use Rattle.std.specs.Int.{is_power_of_two}
 use Rattle.zs_ids.specs.declared.dataset.Name.{Name}
 use Rattle.zs_ids.specs.declared.dataset.DsName.{DsName}
+use Rattle.zs_ids.specs.declared.limits.TheConstants.{BLOCK_BYTES, BLOCKS, LEAST_BLOCKS, SECTOR}
 use Rattle.zs_script.specs.Faults.{◌>>=◌}
 use Rattle.zs_script.specs.declared.command.Why.{Why}
 use Rattle.zs_script.specs.declared.command.Why.TheVariants as why
@@ -23,11 +24,11 @@ number_of low high word =
 
 -- the bytes of a record: a power of two from 512 to 131,072
 unfoldable pub size_of : List ℕ → Result ℕ Why
-size_of word = number_of 512 131072 word >>= λ n. if is_power_of_two n then Ok n else Err why.Number
+size_of word = number_of SECTOR BLOCK_BYTES word >>= λ n. if is_power_of_two n then Ok n else Err why.Number
 
 -- how many blocks a pool may have: a multiple of 4 from 64 to 65,536
 unfoldable pub blocks_of : List ℕ → Result ℕ Why
-blocks_of word = number_of 64 65536 word >>= λ n. if n % 4 == 0 then Ok n else Err why.Number
+blocks_of word = number_of LEAST_BLOCKS BLOCKS word >>= λ n. if n % 4 == 0 then Ok n else Err why.Number
 
 -- a lower-case letter or a digit
 abbrev pub is_name_byte : ℕ → Bool

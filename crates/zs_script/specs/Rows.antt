@@ -1,6 +1,7 @@
 -- The lines of a script: for each command word, the words behind it. Each word is read from left to right, and the
 -- first fault decides.
 use Rattle.std.specs.Prelude.{ℕ, ◌-◌, ◌^◌, List, [], ◌∷◌, Result, Ok, Err}
+use Rattle.zs_ids.specs.declared.limits.TheConstants.{DEVICE_SECTORS, OBJECTS, WAITING, WIDTH}
 use Rattle.zs_script.specs.Faults.{◌>>=◌}
 use Rattle.zs_script.specs.Fields.{number_of, size_of, blocks_of, name_of, ds_of}
 use Rattle.zs_script.specs.declared.command.Command.{Command}
@@ -16,7 +17,7 @@ any_number word = number_of 0 (2 ^ 64 - 1) word
 
 -- an object's number
 abbrev pub object_of : List ℕ → Result ℕ Why
-object_of word = number_of 1 2047 word
+object_of word = number_of 1 OBJECTS word
 
 -- how many levels an object has; objects have one level in this version
 abbrev pub levels_of : List ℕ → Result ℕ Why
@@ -38,12 +39,24 @@ vdev_of word = number_of 0 255 word
 abbrev pub pieces_of : List ℕ → Result ℕ Why
 pieces_of word = number_of 1 1024 word
 
+-- a device's number
+abbrev pub dev_of : List ℕ → Result ℕ Why
+dev_of word = number_of 0 255 word
+
+-- a sector of a device
+abbrev pub sector_of : List ℕ → Result ℕ Why
+sector_of word = number_of 0 (DEVICE_SECTORS - 1) word
+
+-- how many sectors a range may have
+abbrev pub sectors_of : List ℕ → Result ℕ Why
+sectors_of word = number_of 1 65536 word
+
 -- the words of `pool`
 unfoldable pub pool_with : List ℕ → List ℕ → List ℕ → List ℕ → List ℕ → Result Command Why
 pool_with pool width limit every blocks = do
   pool ← any_number pool
-  width ← number_of 1 4 width
-  limit ← number_of 1 65536 limit
+  width ← number_of 1 WIDTH width
+  limit ← number_of 1 WAITING limit
   every ← number_of 1 1000 every
   blocks ← blocks_of blocks
   Ok (commands.Pool pool width limit every blocks)
@@ -121,6 +134,15 @@ hold_of (_ ∷ vdev ∷ pieces ∷ []) = do
   Ok (commands.Hold vdev pieces)
 hold_of _ = Err why.Count
 
+-- `rot DEV SECTOR COUNT`
+unfoldable pub rot_of : List (List ℕ) → Result Command Why
+rot_of (_ ∷ dev ∷ sector ∷ count ∷ []) = do
+  dev ← dev_of dev
+  sector ← sector_of sector
+  count ← sectors_of count
+  Ok (commands.Rot dev sector count)
+rot_of _ = Err why.Count
+
 -- a command word alone
 unfoldable pub alone_of : Command → List (List ℕ) → Result Command Why
 alone_of command (_ ∷ []) = Ok command
@@ -140,4 +162,6 @@ command_of verbs.Issue words = issue_of words
 command_of verbs.Hold words = hold_of words
 command_of verbs.Land words = alone_of commands.Land words
 command_of verbs.Finish words = alone_of commands.Finish words
+command_of verbs.Rot words = rot_of words
+command_of verbs.Errors words = alone_of commands.Errors words
 command_of verbs.Status words = alone_of commands.Status words

@@ -3,6 +3,7 @@ use Rattle.std.specs.Prelude.{◌≡◌, ℕ, ◌+◌, ◌==◌, nat_lt, nat_le,
 use Rattle.std.specs.List.{list_all, slice_split}
 use Rattle.std.specs.Option.{option_to_list}
 use Rattle.std.specs.Str.Lines.{strip_carriage_return}
+use Rattle.zs_ids.specs.declared.limits.TheConstants.{SCRIPT_BYTES}
 use Rattle.zs_script.specs.Faults.{◌>>=◌}
 use Rattle.zs_script.specs.Verbs.{verb_of}
 use Rattle.zs_script.specs.Rows.{command_of}
@@ -21,10 +22,6 @@ use Rattle.zs_script.specs.declared.script.Before.{Before}
 pub record TextLine : Type 0 where
   pub bytes : List ℕ
   pub over : Bool
-
--- the most bytes of a script
-abbrev pub script_bytes : ℕ
-script_bytes = 16777216
 
 -- the lines that these parts between line feeds make. Before a line feed a carriage return is dropped. The last part
 -- has no line feed; where the script is cut off, its line reaches past the most bytes.
@@ -113,7 +110,7 @@ nothing_before = record { pool = false; fs = false }
 -- the lines of a script, or its first fault
 unfoldable pub parsed_script : List ℕ → Result (List Line) ScriptFault
 parsed_script bytes =
-    lines_from 1 nothing_before (lines_of (nat_lt script_bytes (length bytes)) (take script_bytes bytes)) >>= some_line
+    lines_from 1 nothing_before (lines_of (nat_lt SCRIPT_BYTES (length bytes)) (take SCRIPT_BYTES bytes)) >>= some_line
 
 -- what a function gives, seen by view, is what reading gives, unless memory was wanting
 abbrev pub Fails : {Y : Type 0} → ScriptFault → Result Y ScriptFault → Type 0

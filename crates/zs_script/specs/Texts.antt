@@ -10,6 +10,7 @@ use Rattle.zs_script.specs.Refusals.{refusal_name}
 use Rattle.zs_script.specs.declared.refusal.Refusal.{Refusal}
 use Rattle.zs_script.specs.declared.reply.Reply.{Reply}
 use Rattle.zs_script.specs.declared.reply.Reply.TheVariants as replies
+use Rattle.zs_script.specs.declared.reply.ErrorPiece.{ErrorPiece}
 use Rattle.zs_script.specs.declared.reply.Finished.{Finished}
 use Rattle.zs_script.specs.declared.reply.IssuedPiece.{IssuedPiece}
 use Rattle.zs_script.specs.declared.reply.LandedPiece.{LandedPiece}
@@ -134,6 +135,12 @@ issued_text p = codes " " ++ decimal p.sector ++ codes ":" ++ letters_text p.let
 abbrev pub landed_text : LandedPiece → List ℕ
 landed_text p = codes " " ++ decimal p.vdev ++ codes "/" ++ decimal p.sector ++ codes ":" ++ entry_text p.letters
 
+-- a damaged piece: its mirror, sector and birth, and what was found
+abbrev pub error_line : ErrorPiece → List ℕ
+error_line p =
+    codes "error " ++ decimal p.vdev ++ codes " " ++ decimal p.sector ++ codes " " ++ decimal p.birth ++ codes " "
+    ++ letters_text p.letters ++ codes "\n"
+
 -- the record of a dataset of which a reply speaks
 abbrev pub record_text : DsName → ℕ → ℕ → List ℕ
 record_text ds object leaf = ds_text ds ++ codes " " ++ decimal object ++ codes " " ++ decimal leaf
@@ -152,6 +159,8 @@ reply_lines (replies.Walked turns why waiting) =
 reply_lines (replies.Issued vdev pieces) = codes "issue " ++ decimal vdev ++ codes " " ++ decimal (length pieces) ++ flat_map issued_text pieces ++ codes "\n"
 reply_lines (replies.Held vdev sectors) = codes "hold " ++ decimal vdev ++ codes " " ++ decimal (length sectors) ++ flat_map word_of sectors ++ codes "\n"
 reply_lines (replies.Landed entries pieces) = codes "land " ++ decimal entries ++ flat_map landed_text pieces ++ codes "\n"
+reply_lines (replies.Rotted dev sector count) = codes "rot " ++ decimal dev ++ codes " " ++ decimal sector ++ codes " " ++ decimal count ++ codes "\n"
+reply_lines (replies.Errors pieces) = codes "errors " ++ decimal (length pieces) ++ codes "\n" ++ flat_map error_line pieces
 reply_lines (replies.Status txg scan) = codes "txg " ++ decimal txg ++ codes "\n" ++ scan_lines scan
 reply_lines (replies.RefusedSync txg refusal) = codes "sync " ++ decimal txg ++ codes " refused " ++ refusal_name refusal ++ codes "\n"
 reply_lines (replies.Refused refusal) = codes "refused " ++ refusal_name refusal ++ codes "\n"

@@ -5,7 +5,7 @@ use Rattle.zs_script.specs.Faults.{◌>>=◌}
 use Rattle.zs_script.specs.declared.command.Why.{Why}
 use Rattle.zs_script.specs.declared.command.Why.TheVariants as why
 use Rattle.zs_script.specs.declared.verb.Verb.{Verb}
-use Rattle.zs_script.specs.declared.verb.Verb.TheVariants.{Pool, Fs, Make, Write, Read, Sync, Scrub, Walk, Issue, Hold, Land, Finish, Status}
+use Rattle.zs_script.specs.declared.verb.Verb.TheVariants.{Pool, Fs, Make, Write, Read, Sync, Scrub, Walk, Issue, Hold, Land, Finish, Rot, Errors, Status}
 
 -- the command word that is spelled so
 unfoldable pub verb_named : List ℕ → Result Verb Why
@@ -22,8 +22,10 @@ verb_named word =
     else (if pointwise ◌==◌ word (codes "hold") then Ok Hold
     else (if pointwise ◌==◌ word (codes "land") then Ok Land
     else (if pointwise ◌==◌ word (codes "finish") then Ok Finish
+    else (if pointwise ◌==◌ word (codes "rot") then Ok Rot
+    else (if pointwise ◌==◌ word (codes "errors") then Ok Errors
     else (if pointwise ◌==◌ word (codes "status") then Ok Status
-    else Err why.Word))))))))))))
+    else Err why.Word))))))))))))))
 
 -- behind `scrub` no line has a word
 abbrev pub followed_verb : Verb → Result Verb Why

@@ -5,6 +5,7 @@ ghost use Rattle.std.specs.List.{list_all};
 ghost use Rattle.zs_script.specs.Fields.{digits_from, number_of, size_of, blocks_of, is_name_byte, is_name_word, name_of, head_of, snapshot_of, ds_of};
 
 use crate::command::Why;
+use zs_ids::limits::{BLOCK_BYTES, BLOCKS, LEAST_BLOCKS, SECTOR};
 use zs_ids::{DsName, Name};
 
 /// A number from `low` to `high`: decimal digits without a leading zero.
@@ -46,7 +47,7 @@ fn digits(word: &[u8]) -> Result<u64, Why>
 pub(crate) fn size(word: &[u8]) -> Result<u32, Why>
     ensures { result ≡ size_of word.now }
 {
-    let n = number(word, 512, 131_072)? as u32;
+    let n = number(word, SECTOR, BLOCK_BYTES as u64)? as u32;
     if n.is_power_of_two() {
         Ok(n)
     } else {
@@ -59,7 +60,7 @@ pub(crate) fn size(word: &[u8]) -> Result<u32, Why>
 pub(crate) fn blocks(word: &[u8]) -> Result<u32, Why>
     ensures { result ≡ blocks_of word.now }
 {
-    let n = number(word, 64, 65_536)? as u32;
+    let n = number(word, u64::from(LEAST_BLOCKS), u64::from(BLOCKS))? as u32;
     if n % 4 == 0 { Ok(n) } else { Err(Why::Number) }
 }
 

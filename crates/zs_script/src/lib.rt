@@ -34,8 +34,8 @@ mod verb;
 pub use command::{Command, Line, ScriptFault, Why};
 pub use refusal::Refusal;
 pub use reply::{
-    Finished, IssuedPiece, LandedPiece, Letter, Reply, ScanKind, ScanState, ScanStatus, TodoEntry,
-    WalkEnd, WalkPlace, Walking,
+    ErrorPiece, Finished, IssuedPiece, LandedPiece, Letter, Reply, ScanKind, ScanState, ScanStatus,
+    TodoEntry, WalkEnd, WalkPlace, Walking,
 };
 pub use script::parse;
 pub use texts::text;

@@ -4,7 +4,7 @@ ghost use Rattle.std.specs.Prelude.{◌≡◌, Some};
 ghost use Rattle.zs_script.specs.Texts.{kind_text, state_text, end_text, letter_text};
 
 use crate::refusal::Refusal;
-use zs_ids::{DsName, Key, Seq};
+use zs_ids::{Boxed, DsName, Key, Seq};
 
 /// Which scan.
 #[derive(Clone, Copy, Debug, PartialEq, Eq)]
@@ -129,6 +129,19 @@ pub struct LandedPiece {
     pub sector: u32,
     /// What its check found, as in `IssuedPiece`; `None` where no entry was made.
     pub letters: Option<[Option<Letter>; 4]>,
+}
+
+/// A damaged piece, as a reply tells it.
+#[derive(Clone, Copy, Debug, PartialEq, Eq)]
+pub struct ErrorPiece {
+    /// Its mirror.
+    pub vdev: u8,
+    /// Its first sector.
+    pub sector: u32,
+    /// The transaction group that wrote it.
+    pub birth: u64,
+    /// What its check found, as in `IssuedPiece`.
+    pub letters: [Option<Letter>; 4],
 }
 
 /// A scan that came to its end.
@@ -292,12 +305,27 @@ pub enum Reply {
         /// The pieces, in the order in which they were checked.
         pieces: Seq<LandedPiece>,
     },
+    /// `rot DEV SECTOR COUNT`: the bytes of the range were complemented.
+    Rotted {
+        /// The device's number.
+        dev: u8,
+        /// The first sector.
+        sector: u32,
+        /// How many sectors.
+        count: u32,
+    },
+    /// `errors N`, and a line for each damaged piece.
+    Errors {
+        /// The damaged pieces, in order of mirror, sector and birth.
+        pieces: Seq<ErrorPiece>,
+    },
     /// `txg T`, and how the scan stands.
     Status {
         /// The open transaction group.
         txg: u64,
-        /// The last scan, where there was one.
-        scan: Option<ScanStatus>,
+        /// The last scan, where there was one. It is larger than all else that a reply has, so it stands
+        /// behind a pointer.
+        scan: Option<Boxed<ScanStatus>>,
     },
     /// `sync T refused NAME`: the commit failed, and the pool is suspended.
     RefusedSync {

@@ -4,7 +4,7 @@ use crate::tests::{HEAD, SNAPSHOT};
 use crate::*;
 use std::alloc::{AllocError, Global};
 use std::test::Fail;
-use zs_ids::{DsName, Key, Name, Seq};
+use zs_ids::{Boxed, DsName, Key, Name, Seq};
 
 /// The origin.
 const ORIGIN: DsName = DsName {
@@ -223,6 +223,39 @@ fn texts_of_batches(rt: HostRuntime) -> Result<(), Fail> {
     Ok(())
 }
 
+#[test]
+fn texts_of_damage(rt: HostRuntime) -> Result<(), Fail> {
+    let alloc = rt.alloc();
+    let reply = Reply::Rotted {
+        dev: 1,
+        sector: 312,
+        count: 65_536,
+    };
+    assert!(rt; prints(alloc, 0, &reply, "rot 1 312 65536\n")?);
+    let lost = ErrorPiece {
+        vdev: 0,
+        sector: 312,
+        birth: 2,
+        letters: [Some(Letter::Bad), Some(Letter::Bad), None, None],
+    };
+    let unread = ErrorPiece {
+        vdev: 1,
+        letters: [Some(Letter::Fault), None, None, None],
+        ..lost
+    };
+    let pieces = Seq::from_slice(alloc, &[lost, unread])?;
+    let reply = Reply::Errors { pieces };
+    assert!(rt;
+        prints(
+            alloc,
+            0,
+            &reply,
+            "errors 2\nerror 0 312 2 BB\nerror 1 312 2 F\n"
+        )?
+    );
+    Ok(())
+}
+
 /// The state of a scrub.
 fn scrub(state: ScanState, waiting: u32, walking: Option<Walking>) -> ScanStatus {
     ScanStatus {
@@ -243,7 +276,7 @@ fn texts_of_states(rt: HostRuntime) -> Result<(), Fail> {
     assert!(rt; prints(alloc, 0, &reply, "txg 2\nscan none\n")?);
     let reply = Reply::Status {
         txg: 6,
-        scan: Some(scrub(ScanState::Finished, 0, None)),
+        scan: Some(Boxed::new(alloc, scrub(ScanState::Finished, 0, None))?),
     };
     assert!(rt;
         prints(
@@ -281,7 +314,7 @@ fn texts_of_running_scans(rt: HostRuntime) -> Result<(), Fail> {
     };
     let reply = Reply::Status {
         txg: 8,
-        scan: Some(scrub(ScanState::Scanning, 2, Some(walking))),
+        scan: Some(Boxed::new(alloc, scrub(ScanState::Scanning, 2, Some(walking)))?),
     };
     assert!(rt;
         prints(
@@ -306,7 +339,7 @@ fn texts_of_paused_scans(rt: HostRuntime) -> Result<(), Fail> {
     };
     let reply = Reply::Status {
         txg: 8,
-        scan: Some(scrub(ScanState::Paused, 0, Some(walking))),
+        scan: Some(Boxed::new(alloc, scrub(ScanState::Paused, 0, Some(walking)))?),
     };
     assert!(rt;
         prints(
@@ -330,7 +363,7 @@ fn texts_of_destroyed_places(rt: HostRuntime) -> Result<(), Fail> {
     };
     let reply = Reply::Status {
         txg: 6,
-        scan: Some(scrub(ScanState::Scanning, 0, Some(walking))),
+        scan: Some(Boxed::new(alloc, scrub(ScanState::Scanning, 0, Some(walking)))?),
     };
     assert!(rt;
         prints(
@@ -357,7 +390,7 @@ fn texts_of_canceled_scans(rt: HostRuntime) -> Result<(), Fail> {
     };
     let reply = Reply::Status {
         txg: 9,
-        scan: Some(scan),
+        scan: Some(Boxed::new(alloc, scan)?),
     };
     assert!(rt;
         prints(

@@ -1,17 +1,15 @@
 //! A line's words, and the command that they make.
 
 ghost use Rattle.std.specs.Prelude.{◌≡◌, map};
-ghost use Rattle.zs_script.specs.Rows.{pool_with, pool_of, fs_of, make_with, make_of, write_with, write_of, read_of, walk_of, issue_of, hold_of, alone_of, command_of};
+ghost use Rattle.zs_script.specs.Rows.{pool_with, pool_of, fs_of, make_with, make_of, write_with, write_of, read_of, walk_of, issue_of, hold_of, rot_of, alone_of, command_of};
 
 use crate::command::{Command, Why};
 use crate::fields::{blocks, ds_name, name, number, size};
 use crate::verb::Verb;
+use zs_ids::limits::{DEVICE_SECTORS, OBJECTS, WAITING, WIDTH};
 
 /// The most levels of an object. Objects have one level in this version.
 const LEVELS: u64 = 1;
-
-/// The greatest number of an object.
-const LAST_OBJECT: u64 = 2047;
 
 /// The greatest number of a record.
 const LAST_LEAF: u64 = 262_143;
@@ -24,6 +22,15 @@ const LAST_VDEV: u64 = 255;
 
 /// The most pieces of a batch.
 const MOST_PIECES: u64 = 1024;
+
+/// The greatest number of a device that a line may name.
+const LAST_DEVICE: u64 = 255;
+
+/// The greatest sector that a line may name.
+const LAST_SECTOR: u64 = DEVICE_SECTORS as u64 - 1;
+
+/// The most sectors of a range.
+const MOST_SECTORS: u64 = 65_536;
 
 /// The command of a line's words, of which the first is the command word.
 #[tactic(auto, unfolding(crate::specs::Rows::command_of))]
@@ -43,6 +50,8 @@ pub(crate) fn command_with(verb: Verb, words: &[&[u8]]) -> Result<Command, Why>
         Verb::Hold => hold(words),
         Verb::Land => alone(words, Command::Land),
         Verb::Finish => alone(words, Command::Finish),
+        Verb::Rot => rot(words),
+        Verb::Errors => alone(words, Command::Errors),
         Verb::Status => alone(words, Command::Status),
     }
 }
@@ -69,8 +78,8 @@ fn pool_with(
     ensures { result ≡ pool_with pool.now width.now limit.now every.now most.now }
 {
     let pool = number(pool, 0, u64::MAX)?;
-    let width = number(width, 1, 4)? as u8;
-    let limit = number(limit, 1, 65_536)? as u32;
+    let width = number(width, 1, u64::from(WIDTH))? as u8;
+    let limit = number(limit, 1, u64::from(WAITING))? as u32;
     let every = number(every, 1, 1000)? as u32;
     let blocks = blocks(most)?;
     Ok(Command::Pool {
@@ -118,7 +127,7 @@ fn make_with(
     ensures { result ≡ make_with ds.now object.now levels.now bytes.now fill.now }
 {
     let ds = ds_name(ds)?;
-    let object = number(object, 1, LAST_OBJECT)? as u16;
+    let object = number(object, 1, u64::from(OBJECTS))? as u16;
     let levels = number(levels, 1, LEVELS)? as u8;
     let size = size(bytes)?;
     let fill = number(fill, 0, u64::MAX)?;
@@ -147,7 +156,7 @@ fn write_with(ds: &[u8], object: &[u8], leaf: &[u8], fill: &[u8]) -> Result<Comm
     ensures { result ≡ write_with ds.now object.now leaf.now fill.now }
 {
     let ds = ds_name(ds)?;
-    let object = number(object, 1, LAST_OBJECT)? as u16;
+    let object = number(object, 1, u64::from(OBJECTS))? as u16;
     let leaf = number(leaf, 0, LAST_LEAF)? as u32;
     let fill = number(fill, 0, u64::MAX)?;
     Ok(Command::Write {
@@ -166,7 +175,7 @@ fn read(words: &[&[u8]]) -> Result<Command, Why>
     match words {
         [_, ds, object, leaf] => {
             let ds = ds_name(ds)?;
-            let object = number(object, 1, LAST_OBJECT)? as u16;
+            let object = number(object, 1, u64::from(OBJECTS))? as u16;
             let leaf = number(leaf, 0, LAST_LEAF)? as u32;
             Ok(Command::Read { ds, object, leaf })
         }
@@ -213,6 +222,22 @@ fn hold(words: &[&[u8]]) -> Result<Command, Why>
             let vdev = number(vdev, 0, LAST_VDEV)? as u8;
             let pieces = number(pieces, 1, MOST_PIECES)? as u32;
             Ok(Command::Hold { vdev, pieces })
+        }
+        _ => Err(Why::Count),
+    }
+}
+
+/// `rot DEV SECTOR COUNT`.
+#[tactic(auto, unfolding(crate::specs::Rows::rot_of))]
+fn rot(words: &[&[u8]]) -> Result<Command, Why>
+    ensures { result ≡ rot_of (map (λ w. w.now) words.now) }
+{
+    match words {
+        [_, dev, sector, count] => {
+            let dev = number(dev, 0, LAST_DEVICE)? as u8;
+            let sector = number(sector, 0, LAST_SECTOR)? as u32;
+            let count = number(count, 1, MOST_SECTORS)? as u32;
+            Ok(Command::Rot { dev, sector, count })
         }
         _ => Err(Why::Count),
     }

@@ -3,14 +3,15 @@
 ghost use Rattle.std.specs.Prelude.{◌≡◌, ◌++◌, if◌then◌else◌, Some, IfOk, OnOk, codes, length};
 ghost use Rattle.std.specs.List.{flat_map};
 ghost use Rattle.std.specs.Fmt.{decimal};
-ghost use Rattle.zs_script.specs.Texts.{end_text, key_text, letter_text, letters_text, entry_text, issued_text, landed_text, word_of, place_text, todo_text, walking_lines, scan_lines};
+ghost use Rattle.zs_script.specs.Texts.{end_text, key_text, letter_text, letters_text, entry_text, issued_text, landed_text, error_line, word_of, place_text, todo_text, walking_lines, scan_lines};
 
 use crate::reply::{
-    IssuedPiece, LandedPiece, Letter, ScanStatus, TodoEntry, WalkEnd, WalkPlace, Walking,
+    ErrorPiece, IssuedPiece, LandedPiece, Letter, ScanStatus, TodoEntry, WalkEnd, WalkPlace,
+    Walking,
 };
 use crate::texts::push_ds;
 use std::alloc::{AllocError, Global};
-use zs_ids::Key;
+use zs_ids::{Boxed, Key};
 
 /// The line of a walk.
 pub(crate) fn walked(
@@ -77,18 +78,30 @@ pub(crate) fn landed(
     Ok(out)
 }
 
+/// The lines of the damaged pieces.
+pub(crate) fn errors(alloc: Global, pieces: &[ErrorPiece]) -> Result<Vec<u8>, AllocError>
+    ensures { IfOk result (λ v. v.items ≡ codes "errors " ++ decimal (length pieces.now) ++ codes "\n" ++ flat_map error_line pieces.now) }
+{
+    let count = pieces.len();
+    let mut out = format!(in alloc; "errors {count}\n")?.into_bytes();
+    for piece in pieces {
+        push_error(alloc, &mut out, piece)?;
+    }
+    Ok(out)
+}
+
 /// The lines of the pool's state.
 pub(crate) fn status(
     alloc: Global,
     txg: u64,
-    scan: &Option<ScanStatus>,
+    scan: &Option<Boxed<ScanStatus>>,
 ) -> Result<Vec<u8>, AllocError>
     ensures { IfOk result (λ v. v.items ≡ codes "txg " ++ decimal txg ++ codes "\n" ++ scan_lines scan.now) }
 {
     let mut out = format!(in alloc; "txg {txg}\n")?.into_bytes();
     match scan {
         None => out.extend_from_slice(b"scan none\n")?,
-        Some(scan) => push_scan(alloc, &mut out, scan)?,
+        Some(scan) => push_scan(alloc, &mut out, scan.get())?,
     }
     Ok(out)
 }
@@ -251,6 +264,20 @@ fn push_landed(alloc: Global, out: &mut Vec<u8>, piece: &LandedPiece) -> Result<
         None => out.extend_from_slice(b"-"),
         Some(letters) => push_letters(out, letters),
     }
+}
+
+/// Puts the line of a damaged piece at the end.
+fn push_error(alloc: Global, out: &mut Vec<u8>, piece: &ErrorPiece) -> Result<(), AllocError>
+    ensures { OnOk result (out.new.items ≡ out.old.items ++ error_line piece.now) }
+{
+    let vdev = piece.vdev;
+    let sector = piece.sector;
+    let birth = piece.birth;
+    let words = format!(in alloc; "error {vdev} {sector} {birth} ")?;
+    out.extend_from_slice(words.as_bytes())?;
+    push_letters(out, &piece.letters)?;
+    out.extend_from_slice(b"\n")?;
+    Ok(())
 }
 
 /// Puts the letters of a piece at the end.

@@ -6,15 +6,13 @@ ghost use Rattle.std.specs.Option.{option_to_list, option_copied};
 ghost use Rattle.std.specs.Str.Lines.{strip_carriage_return};
 ghost use Rattle.zs_script.specs.Lines.{IsScript};
 ghost use Rattle.zs_script.specs.Reading.{lines_left, left, Passes, Stops};
-ghost use Rattle.zs_script.specs.Script.{TextLine, lines_of, words_of, is_text_byte, is_skipped, is_allowed, with_command, with_line, command_at, command_in, at_line, line_of, lines_from, nothing_before, script_bytes, parsed_script, Gives};
+ghost use Rattle.zs_script.specs.Script.{TextLine, lines_of, words_of, is_text_byte, is_skipped, is_allowed, with_command, with_line, command_at, command_in, at_line, line_of, lines_from, nothing_before, parsed_script, Gives};
 
 use crate::command::{Command, Line, ScriptFault, Why};
 use crate::rows::command_with;
 use crate::verb::{Verb, verb_in};
 use std::alloc::{AllocError, AllocFailed, Global};
-
-/// The most bytes of a script.
-const SCRIPT_BYTES: usize = 16_777_216;
+use zs_ids::limits::SCRIPT_BYTES;
 
 /// One more than the most words of a line.
 const MANY_WORDS: usize = 7;
@@ -109,8 +107,8 @@ fn read_script(alloc: Global, bytes: &[u8]) -> Result<Vec<Line>, ScriptFault>
 
 /// As much of a script as may be.
 fn front(bytes: &[u8]) -> &[u8]
-    ensures value { result.now ≡ take script_bytes bytes.now }
-    ensures len { length result.now ≤ script_bytes }
+    ensures value { result.now ≡ take SCRIPT_BYTES bytes.now }
+    ensures len { length result.now ≤ SCRIPT_BYTES }
 {
     let len = SCRIPT_BYTES.min(bytes.len());
     &bytes[..len]
@@ -118,7 +116,7 @@ fn front(bytes: &[u8]) -> &[u8]
 
 /// The lines of a text. Where it is cut off, its last line reaches past the most bytes of a script.
 fn read_lines(alloc: Global, text: &[u8], cut: bool) -> Result<Vec<Line>, ScriptFault>
-    requires { length text.now ≤ script_bytes }
+    requires { length text.now ≤ SCRIPT_BYTES }
     ensures { Gives (λ v. v.items) result (lines_from 1 nothing_before (lines_of cut text.now)) }
 {
     let mut lines = Vec::new(alloc);

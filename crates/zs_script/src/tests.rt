@@ -62,6 +62,7 @@ fn faults_of_words(rt: HostRuntime) {
         ("pool 7 2 8 4 64\nlist\n", 2),
         ("pool 7 2 8 4 64\nWalk 1\n", 2),
         ("pool 7 2 8 4 64\nlands\n", 2),
+        ("pool 7 2 8 4 64\nerror\n", 2),
     ];
     for (script, line) in cases {
         assert_eq!(rt;
@@ -212,6 +213,9 @@ fn least_and_greatest_numbers_of_scans(rt: HostRuntime) -> Result<(), Fail> {
         "issue 255 1024",
         "hold 0 1",
         "hold 255 1024",
+        "rot 0 0 1",
+        "rot 255 2097151 65536",
+        "errors",
     ];
     for line in lines {
         assert_eq!(rt; fault_in(rt.alloc(), line)?, None, "at {line}");
@@ -235,6 +239,11 @@ fn numbers_past_their_range(rt: HostRuntime) -> Result<(), Fail> {
         "hold 0 0",
         "hold 0 1025",
         "hold 0 x",
+        "rot 256 0 1",
+        "rot 0 2097152 1",
+        "rot 0 0 0",
+        "rot 0 0 65537",
+        "rot 0 01 1",
     ];
     for line in lines {
         assert_eq!(rt;
@@ -259,6 +268,9 @@ fn wrong_numbers_of_words(rt: HostRuntime) -> Result<(), Fail> {
         "hold 0 1 1",
         "land 1",
         "status 1",
+        "rot 0 0",
+        "rot 0 0 1 1",
+        "errors 1",
     ];
     for line in lines {
         assert_eq!(rt;
@@ -358,7 +370,8 @@ fn records_and_scans(rt: HostRuntime) {
 
 #[test]
 fn batches_and_states(rt: HostRuntime) {
-    let script = b"pool 0 1 1 1 64\nstatus\nwalk 100\nissue 3 10\nhold 0 11\nland\nwrite a 1 2 6\n";
+    let script =
+        b"pool 0 1 1 1 64\nstatus\nwalk 100\nissue 3 10\nhold 0 11\nland\nwrite a 1 2 6\nrot 1 312 8\nerrors\n";
     let lines = match parse(rt.alloc(), script) {
         Ok(lines) => lines,
         Err(_) => Vec::new(rt.alloc()),
@@ -377,13 +390,20 @@ fn batches_and_states(rt: HostRuntime) {
         leaf: 2,
         fill: 6,
     };
-    assert_eq!(rt; lines.len(), 7);
+    let rot = Command::Rot {
+        dev: 1,
+        sector: 312,
+        count: 8,
+    };
+    assert_eq!(rt; lines.len(), 9);
     assert!(rt; is_line(lines.get(1), 2, Command::Status));
     assert!(rt; is_line(lines.get(2), 3, Command::Walk { turns: 100 }));
     assert!(rt; is_line(lines.get(3), 4, issue));
     assert!(rt; is_line(lines.get(4), 5, hold));
     assert!(rt; is_line(lines.get(5), 6, Command::Land));
     assert!(rt; is_line(lines.get(6), 7, write));
+    assert!(rt; is_line(lines.get(7), 8, rot));
+    assert!(rt; is_line(lines.get(8), 9, Command::Errors));
 }
 
 /// A script of this start, and behind it as many times the byte.

@@ -61,6 +61,8 @@ fn lines(alloc: Global, reply: &Reply) -> Result<Vec<u8>, AllocError>
         Reply::Issued { vdev, pieces } => scan_texts::issued(alloc, *vdev, pieces.as_slice()),
         Reply::Held { vdev, sectors } => scan_texts::held(alloc, *vdev, sectors.as_slice()),
         Reply::Landed { entries, pieces } => scan_texts::landed(alloc, *entries, pieces.as_slice()),
+        Reply::Rotted { dev, sector, count } => rotted(alloc, *dev, *sector, *count),
+        Reply::Errors { pieces } => scan_texts::errors(alloc, pieces.as_slice()),
         Reply::Status { txg, scan } => scan_texts::status(alloc, *txg, scan),
         Reply::RefusedSync { txg, refusal } => refused_sync(alloc, *txg, *refusal),
         Reply::Refused(refusal) => refused(alloc, *refusal),
@@ -148,6 +150,13 @@ fn refused(alloc: Global, refusal: Refusal) -> Result<Vec<u8>, AllocError>
 {
     let name = refusal.name();
     Ok(format!(in alloc; "refused {name}\n")?.into_bytes())
+}
+
+fn rotted(alloc: Global, dev: u8, sector: u32, count: u32) -> Result<Vec<u8>, AllocError>
+    ensures { IfOk result
+        (λ v. v.items ≡ codes "rot " ++ decimal dev ++ codes " " ++ decimal sector ++ codes " " ++ decimal count ++ codes "\n") }
+{
+    Ok(format!(in alloc; "rot {dev} {sector} {count}\n")?.into_bytes())
 }
 
 /// Puts the lines of a commit's tasks at the end.

@@ -20,6 +20,8 @@ pub(crate) enum Verb {
     Hold,
     Land,
     Finish,
+    Rot,
+    Errors,
     Status,
 }
 
@@ -74,6 +76,10 @@ fn named(word: &[u8]) -> Result<Verb, Why>
         Ok(Verb::Land)
     } else if word == b"finish".as_slice() {
         Ok(Verb::Finish)
+    } else if word == b"rot".as_slice() {
+        Ok(Verb::Rot)
+    } else if word == b"errors".as_slice() {
+        Ok(Verb::Errors)
     } else if word == b"status".as_slice() {
         Ok(Verb::Status)
     } else {

@@ -4,7 +4,8 @@ use Rattle.std.specs.Prelude.{Option, Some, None}
 use Rattle.zs_ids.specs.declared.block.Piece.{Piece}
 use Rattle.zs_ids.specs.Graph.{Has}
 use Rattle.zs_ledger.specs.declared.entry.Entry.{Entry}
-use Rattle.zs_queue.specs.Lists.{passing-cons, has-filter}
+use Rattle.zs_cover.proofs.Lists.{has-map}
+use Rattle.zs_queue.specs.Lists.{passing-cons}
 use Rattle.zs_scan.specs.declared.batch.Batch.{Batch}
 use Rattle.zs_scan.specs.Flight.{first_of}
 use Rattle.zs_scan.specs.View.{ScanView, pieces_in, flies_in, mark_of}
@@ -17,7 +18,10 @@ use Rattle.zs_core.specs.View.{PoolView}
 use Rattle.zs_machine.specs.History.{AddsEvent}
 use Rattle.zs_machine.specs.declared.event.Step.TheVariants as step
 use Rattle.zs_script.specs.declared.reply.Reply.TheVariants as reply
-use Rattle.zs_session.specs.Plays.{Contents, AreChecks, Went}
+use Rattle.zs_session.specs.Devices.{Journals}
+use Rattle.zs_session.specs.Plays.{AreChecks, Went}
+use Rattle.zs_machine.specs.Flight.{Flying, in_flight}
+use Rattle.zs_core.specs.FlightTold.{FlyAsTold, flying_of}
 use Rattle.zs_session.specs.Batches.{HadVerdict}
 use Rattle.zs_session.proofs.Checks.{are_of}
 use Rattle.zs_session.proofs.Histories.{went_one}
@@ -45,21 +49,33 @@ whole_of by many before old new b verdict taken =
     ap (λ (es : List Entry). map (λ e. e.piece) es) (verdict.which ∙ all_fly before old.core.scan b verdict.entries taken verdict.of_items) ∙ of_pieces b.items verdict.entries verdict.of_items
 
 -- the entries that were made are those of checks of the batch's pieces
-pub went_judged : (by many n : ℕ) (old new : PoolView) (b : Batch) (v : Verdicts) (before after : Contents) → HasVerdict by old v many new → Has old.core.scan.flight b → v.number ≡ b.number
-    → AreChecks n b.items before v.entries after → n ≡ old.core.shape.width → new.core.shape ≡ old.core.shape → Went old new before after []
-went_judged by many n old new b v before after verdict here same checks width shape = go verdict.made verdict.judged verdict.event
+pub went_judged : (by many n : ℕ) (old new : PoolView) (b : Batch) (v : Verdicts) (before after : Journals) → HasVerdict by old v many new → Has old.core.scan.flight b → v.number ≡ b.number
+    → AreChecks n b.online b.items before v.entries after → n ≡ old.core.shape.width → new.core.shape ≡ old.core.shape → FlyAsTold old.core.scan.flight old.history
+    → Went old new before after []
+went_judged by many n old new b v before after verdict here same checks width shape fly = go verdict.made verdict.judged verdict.event
   where
     are : AreOf b.items v.entries
-    are = are_of n b.items v.entries before after checks
+    are = are_of n b.online b.items v.entries before after checks
+
+    pieces : map (λ e. e.piece) v.entries ≡ pieces_in b.items
+    pieces = of_pieces b.items v.entries are
+
+    taken : Has (in_flight old.history) (record { number = v.number; online = b.online; pieces = map (λ e. e.piece) v.entries })
+    taken = subst (λ (n : ℕ). Has (in_flight old.history) (record { number = n; online = b.online; pieces = map (λ e. e.piece) v.entries })) (sym same)
+        (subst (λ (ps : List Piece). Has (in_flight old.history) (record { number = b.number; online = b.online; pieces = ps })) (sym pieces)
+        (subst (λ (fs : List Flying). Has fs (flying_of b)) fly.are (has-map flying_of old.core.scan.flight b here)))
 
     go : (made : Option (List Entry)) → IsJudged old.core.scan v.number v.entries made new.core.scan → AddsEvent by (step.Verdict v.number (told_in made v.entries) (entries_in made)) reply.Nothing old.history new.history → Went old new before after []
     go None judged event = absurd (judged.0 (record { batch = b; here = here; named = sym same; of_items = are }))
     go (Some made) judged event = went_one by (step.Verdict v.number (map (λ e. e.piece) v.entries) made) reply.Nothing old new before after event shape (record {
+      online = b.online;
+      taken = taken;
       items = b.items;
       found = v.entries;
-      of_pieces = of_pieces b.items v.entries are;
-      checks = subst (λ (w : ℕ). AreChecks w b.items before v.entries after) width checks;
-      among = λ e has. (has-filter (λ (x : Entry). flies_in v.number (mark_of old.core.scan.marks x.piece)) v.entries e (subst (λ (es : List Entry). Has es e) judged.1 has)).0;
+      of_pieces = pieces;
+      checks = subst (λ (w : ℕ). AreChecks w b.online b.items before v.entries after) width checks;
+      kept = λ (x : Entry). flies_in v.number (mark_of old.core.scan.marks x.piece);
+      among = judged.1;
     })
 
 module _ {A : Type 0} where

@@ -27,9 +27,9 @@ abbrev HavePieces : List Flying → Type 0
 HavePieces flying = (f : Flying) → Has flying f → 1 ≤ length f.pieces
 
 -- a batch more, if it is not empty
-have_more : (flying : List Flying) (number : ℕ) (pieces : List Piece) → HavePieces flying → HavePieces (with_batch flying number pieces)
-have_more flying number [] have = have
-have_more flying number (p ∷ ps) have = λ f here. elim (from-last flying (record { number = number; pieces = p ∷ ps }) f here) [
+have_more : (flying : List Flying) (number online : ℕ) (pieces : List Piece) → HavePieces flying → HavePieces (with_batch flying number online pieces)
+have_more flying number online [] have = have
+have_more flying number online (p ∷ ps) have = λ f here. elim (from-last flying (record { number = number; online = online; pieces = p ∷ ps }) f here) [
   | inl old ↦ have f old
   | inr new ↦ subst (λ (g : Flying). 1 ≤ length g.pieces) new (omega arith)
 ]
@@ -41,7 +41,7 @@ have_fewer flying number (p ∷ ps) have = λ f here. have f (has-filter (λ (b 
 
 -- after one more step
 have_after : (flying : List Flying) (s : Step) → HavePieces flying → HavePieces (flying_after flying s)
-have_after flying (step.Hold number vdev online pieces) have = have_more flying number pieces have
+have_after flying (step.Hold number vdev online pieces) have = have_more flying number online pieces have
 have_after flying (step.Verdict number pieces entries) have = have_fewer flying number pieces have
 have_after flying s have = have
 

@@ -83,5 +83,5 @@ through old new least adds was =
   where
     go : (ss : List Step) → TellsSync ss → is_through (fold phase_after (drained true least) ss) ≡ true
     go (steps.BeginSync ∷ []) tells = refl
-    go (steps.BeginSync ∷ steps.EndData online items ∷ steps.Committed mask ∷ []) tells = refl
+    go (steps.BeginSync ∷ steps.EndData online marks items ∷ steps.Committed mask ∷ []) tells = refl
     go ss tells = absurd tells

@@ -9,11 +9,10 @@ use Rattle.zs_script.specs.declared.command.Line.{Line}
 use Rattle.zs_session.specs.declared.end.End.{End}
 use Rattle.zs_session.specs.declared.end.End.TheVariants as ends
 use Rattle.zs_session.specs.declared.session.Ended.{Ended}
-use Rattle.zs_session.specs.Mirror.{SomeRose}
 use Rattle.zs_session.specs.Ending.{RefusesImages, code}
 use Rattle.zs_session.specs.Puts.{PutsRefusal, refused_line}
 use Rattle.zs_session.proofs.Texts.{part_none}
-use Rattle.zs_session.specs.Images.{AreBlank, IsSizeFault, IsImageFault, AreFresh, HasFailed}
+use Rattle.zs_session.specs.Images.{AreBlank, IsSizeFault, IsImageFault}
 
 -- a fault of the sizes of as many blank images as there should be is one of theirs
 pub sized : (width blocks : ℕ) (sizes : List ℕ) (told : List (Option (List ℕ))) (fault : Refusal) → length sizes ≡ width → AreBlank sizes told → IsSizeFault blocks sizes fault → IsImageFault width blocks sizes told fault
@@ -24,10 +23,6 @@ sized width blocks sizes told fault count blank is = (count, blank, is)
 -- an error stays one of a result of another type
 pub same_error : {A B E : Type 0} {x z : E} → IsErrOf {T = A} {E = E} (Err x) z → IsErrOf {T = B} {E = E} (Err x) z
 same_error h = cc
-
--- a device whose count rose from none has failed
-pub has_failed : (before now : List ℕ) → AreFresh before → SomeRose before now → HasFailed now
-has_failed before now fresh rose = let none = fresh rose.0 in (rose.0, omega (arith, rose.1, none))
 
 -- the line that tells a refusal is the text of its reply
 pub refused_is : (refusal : Refusal) → reply_text 0 (Refused refusal) ≡ refused_line refusal

@@ -26,7 +26,8 @@ use Rattle.zs_script.specs.declared.command.Command.{Command}
 use Rattle.zs_script.specs.declared.reply.IssuedPiece.{IssuedPiece}
 use Rattle.zs_script.specs.declared.reply.Reply.TheVariants as reply
 use Rattle.zs_session.specs.Batches.{TookLowest}
-use Rattle.zs_session.specs.Plays.{Contents, Went}
+use Rattle.zs_session.specs.Devices.{Journals}
+use Rattle.zs_session.specs.Plays.{Went}
 
 module _ {A : Type 0} where
   -- a test that none passes leaves nothing
@@ -128,7 +129,7 @@ took_lowest by number online vdev n items old new event lowest_items = record {
 }
 
 -- it stays the first, whatever comes then
-pub took_on : (old mid new : PoolView) (vdev n : ℕ) (before after : Contents) (cs : List Command) → TookLowest old mid vdev n → Went mid new before after cs → TookLowest old new vdev n
+pub took_on : (old mid new : PoolView) (vdev n : ℕ) (before after : Journals) (cs : List Command) → TookLowest old mid vdev n → Went mid new before after cs → TookLowest old new vdev n
 took_on old mid new vdev n before after cs first went = record {
   by = first.by;
   number = first.number;

@@ -8,7 +8,7 @@ use Rattle.zs_script.specs.declared.command.Command.{Command}
 use Rattle.zs_machine.specs.declared.event.Event.{Event}
 use Rattle.zs_machine.specs.History.{text_of}
 use Rattle.zs_session.specs.Puts.{Puts, PutsPart, PutsLast}
-use Rattle.zs_session.specs.Session.{GoesOn}
+use Rattle.zs_session.specs.Session.{Continues}
 
 -- nothing was put
 pub puts_none : (told : Option (List ℕ)) → told ≡ option_map (λ b. b ++ []) told
@@ -86,7 +86,7 @@ part_of_event events i e start mid end is lt was part =
     part_at events i e start mid end lt was (subst (λ (x : Event). PutsPart (reply_text x.by x.reply) mid end) is part)
 
 -- the same, where those that came since are what stands behind the old ones
-pub part_rest : (start mid end : Option (List ℕ)) (old new rest : List Event) (cs : List Command) → GoesOn old new cs → rest ≡ drop (length old) new → Puts (text_of old) start mid → PutsPart (text_of rest) mid end → PutsPart (text_of new) start end
+pub part_rest : (start mid end : Option (List ℕ)) (old new rest : List Event) (cs : List Command) → Continues old new cs → rest ≡ drop (length old) new → Puts (text_of old) start mid → PutsPart (text_of rest) mid end → PutsPart (text_of new) start end
 part_rest start mid end old new rest cs goes is was part =
     let more : rest ≡ goes.more = is ∙ (ap (λ es. drop (length old) es) goes.is ∙ drop-append_seam old goes.more) in
     part_more start mid end old goes.more new goes.is was (subst (λ (es : List Event). PutsPart (text_of es) mid end) more part)

@@ -1,11 +1,10 @@
 -- What of a `finish` or a `sync` may come next, and what each part of it makes of the line's steps.
-use Rattle.std.specs.Prelude.{◌≡◌, ℕ, ◌+◌, min, length, Bool, true, false, List, [], ◌∷◌, ◌++◌, map, option_map}
+use Rattle.std.specs.Prelude.{◌≡◌, ℕ, ◌+◌, min, length, Bool, true, false, List, [], ◌∷◌, ◌++◌, Result}
 use Rattle.zs_ids.specs.declared.block.Item.{Item}
+use Rattle.zs_ids.specs.declared.block.Marks.{Marks}
 use Rattle.zs_ids.specs.declared.block.Piece.{Piece}
-use Rattle.zs_ids.specs.Graph.{Has}
 use Rattle.zs_objset.specs.declared.block.StagedBlock.{StagedBlock}
 use Rattle.zs_objset.specs.Staged.{pointers_of}
-use Rattle.zs_sum.specs.Sum.{sha256}
 use Rattle.zs_scan.specs.declared.batch.Turn.{Turn}
 use Rattle.zs_walk.specs.Left.{turns_left}
 use Rattle.zs_machine.specs.declared.event.Event.{Event}
@@ -15,8 +14,9 @@ use Rattle.zs_machine.specs.Finishing.{Phase, phase_of, phase_after, walked, hel
 use Rattle.zs_machine.specs.Finishing.Phase.{walking, issuing, drained}
 use Rattle.zs_machine.specs.Told.{TellsSync, line_steps}
 use Rattle.zs_core.specs.View.{CoreView, PoolView}
-use Rattle.zs_session.specs.Mirror.{all_put_over}
-use Rattle.zs_session.specs.Plays.{Contents, Went}
+use Rattle.zs_session.specs.Devices.{Journals}
+use Rattle.zs_session.specs.Plays.{PutsBlocks, Went}
+use Rattle.zs_session.specs.Session.{Stops}
 use Rattle.zs_session.specs.declared.turns.Turned.{Turned}
 use Rattle.zs_session.specs.declared.turns.Turned.TheVariants as turned
 
@@ -56,18 +56,21 @@ pub record AddsSync (old new : List Step) : Type 0 where
 -- a sync that a line has begun was committed; one that stands in no line stays in none
 abbrev pub EndsSync : List Step → List Step → Type 0
 EndsSync [] new = new ≡ []
-EndsSync (s ∷ ss) new = (online : ℕ) × (items : List Item) × (mask : ℕ) × (new ≡ (s ∷ ss) ++ step.EndData online items ∷ step.Committed mask ∷ [])
+EndsSync (s ∷ ss) new = (online : ℕ) × (marks : Marks) × (items : List Item) × (mask : ℕ)
+    × (new ≡ (s ∷ ss) ++ step.EndData online marks items ∷ step.Committed mask ∷ [])
 
--- the bytes of each block hash to its sum
-abbrev pub HaveSums : List StagedBlock → Type 0
-HaveSums blocks = (b : StagedBlock) → Has blocks b → sha256 b.bytes ≡ b.bp.sum
+-- the sync in progress was committed: where blocks with the pointers of its transaction group were written, with these marks,
+-- the journals have the marks of the pool's events
+abbrev pub Commits : Marks → PoolView → PoolView → Type 0
+Commits marks old new =
+    (blocks : List StagedBlock) (before after : Journals) → pointers_of blocks ≡ old.core.pointers
+    → PutsBlocks old.core.shape.width blocks marks.places before after → Went old new before after []
 
--- the sync in progress was committed: whichever blocks with the pointers of its transaction group and with their sums were
--- written, the devices hold what the pool's events made of them
-abbrev pub Commits : PoolView → PoolView → Type 0
-Commits old new =
-    (blocks : List StagedBlock) (before : Contents) → pointers_of blocks ≡ old.core.pointers → HaveSums blocks
-    → Went old new before (map (option_map (all_put_over blocks)) before) []
+-- where it was not, it puts no reply and has no command; the writes were made, and its data's event tells of them, if it came
+abbrev pub StopsCommit : {T E : Type 0} → Marks → PoolView → PoolView → Result T E → Type 0
+StopsCommit marks old new result =
+    (blocks : List StagedBlock) (before after : Journals) → pointers_of blocks ≡ old.core.pointers
+    → PutsBlocks old.core.shape.width blocks marks.places before after → Stops old new before after result
 
 -- how many turns of the walk are left
 abbrev pub walk_left : CoreView → ℕ

@@ -1,9 +1,12 @@
-pub mod Mirror
+pub mod Devices
+pub mod Writing
 pub mod Images
 pub mod Plays
+pub mod Rotting
 pub mod Session
 pub mod Batches
 pub mod OpenReads
+pub mod Making
 pub mod Puts
 pub mod Ending
 pub mod Step

@@ -15,7 +15,9 @@ use Rattle.zs_script.specs.declared.command.Line.{Line}
 use Rattle.zs_script.specs.declared.refusal.Refusal.{Refusal}
 use Rattle.zs_session.specs.declared.stop.Stop.{Stop}
 use Rattle.zs_session.specs.declared.stop.Stop.TheVariants as stops
-use Rattle.zs_session.specs.Mirror.{SomeRose}
+use Rattle.zs_lane.specs.Children.{DeviceView}
+use Rattle.zs_session.specs.Devices.{Journals, SetGoesOn, SomeRose}
+use Rattle.zs_session.specs.Plays.{Halts}
 use Rattle.zs_session.specs.Images.{AreFit, IsImageFault}
 
 -- no sync is in progress, the pool is not suspended, and no read is open
@@ -32,40 +34,49 @@ pub record IsReady (p : PoolView) : Type 0 where
   pub fresh : line_steps p.history ≡ []
 
 -- the history is the old one and what came since, which has just these commands
-pub record GoesOn (old new : List Event) (commands : List Command) : Type 0 where
+pub record Continues (old new : List Event) (commands : List Command) : Type 0 where
   pub more : List Event
   pub is : new ≡ old ++ more
   pub has : commands_of more ≡ commands
 
 -- the history went on with a beginning of these commands
-pub record GoesPart (old new : List Event) (commands : List Command) : Type 0 where
+pub record ContinuesPart (old new : List Event) (commands : List Command) : Type 0 where
   pub many : ℕ
-  pub part : GoesOn old new (take many commands)
+  pub part : Continues old new (take many commands)
 
--- a part of a line puts no reply, whatever comes of it; where it stops, the history went on with no command
-pub record Passes {T E : Type 0} (old new : List Event) (result : Result T E) : Type 0 where
-  pub silent : text_of new ≡ text_of old
-  pub went_on : OnErr result (GoesOn old new [])
+-- so it went on with a beginning of these commands
+pub record HaltsPart (old new : PoolView) (before after : Journals) (commands : List Command) : Type 0 where
+  pub many : ℕ
+  pub part : Halts old new before after (take many commands)
+
+-- a part of a line puts no reply, whatever comes of it; where it stops, the pool went on with no command
+pub record Passes {T E : Type 0} (old new : PoolView) (before after : Journals) (result : Result T E) : Type 0 where
+  pub silent : text_of new.history ≡ text_of old.history
+  pub went_on : OnErr result (Halts old new before after [])
+
+-- the same of a part that calls no device
+abbrev pub PassesAlone : {T E : Type 0} → PoolView → PoolView → Result T E → Type 0
+PassesAlone old new result = (journals : Journals) → Passes old new journals journals result
 
 -- the same where it stops; else it may have put replies
-pub record Stops {T E : Type 0} (old new : List Event) (result : Result T E) : Type 0 where
-  pub silent : OnErr result (text_of new ≡ text_of old)
-  pub went_on : OnErr result (GoesOn old new [])
+pub record Stops {T E : Type 0} (old new : PoolView) (before after : Journals) (result : Result T E) : Type 0 where
+  pub silent : OnErr result (text_of new.history ≡ text_of old.history)
+  pub went_on : OnErr result (Halts old new before after [])
 
 -- a line that stops has no command yet, and where a device stopped it no reply
-pub record StopsLine {T : Type 0} (old new : List Event) (result : Result T BayFault) : Type 0 where
-  pub silent : IsErrOf result Failed → text_of new ≡ text_of old
-  pub went_on : OnErr result (GoesOn old new [])
+pub record StopsLine {T : Type 0} (old new : PoolView) (before after : Journals) (result : Result T BayFault) : Type 0 where
+  pub silent : IsErrOf result Failed → text_of new.history ≡ text_of old.history
+  pub went_on : OnErr result (Halts old new before after [])
 
 -- a line that may stop behind its command has a beginning of these, and no reply where a device stopped it
-pub record StopsIn {T : Type 0} (old new : List Event) (commands : List Command) (result : Result T BayFault) : Type 0 where
-  pub silent : IsErrOf result Failed → text_of new ≡ text_of old
-  pub went_on : OnErr result (GoesPart old new commands)
+pub record StopsIn {T : Type 0} (old new : PoolView) (before after : Journals) (commands : List Command) (result : Result T BayFault) : Type 0 where
+  pub silent : IsErrOf result Failed → text_of new.history ≡ text_of old.history
+  pub went_on : OnErr result (HaltsPart old new before after commands)
 
 -- what calls no device stops only for want of memory, and then has no command
-pub record WantsMemory {T : Type 0} (old new : List Event) (result : Result T BayFault) : Type 0 where
+pub record WantsMemory {T : Type 0} (old new : PoolView) (result : Result T BayFault) : Type 0 where
   pub memory : OnErr result (result ≡ Err Memory)
-  pub went_on : OnErr result (GoesOn old new [])
+  pub went_on : (journals : Journals) → OnErr result (Halts old new journals journals [])
 
 -- the commands of lines, in order
 abbrev pub commands_in : List Line → List Command
@@ -77,16 +88,16 @@ pub record AreFirst (commands all : List Command) : Type 0 where
   pub first : commands ≡ take many all
 
 -- why lines are no longer run: the count of a device rose, or that of the sink, or memory was wanting
-pub record HasReason {T : Type 0} (devices_before devices_now : List ℕ) (sink_before sink_now : ℕ) (result : Result T Stop) : Type 0 where
-  pub ok : OnOk result (devices_now ≡ devices_before) × OnOk result (sink_now ≡ sink_before)
-  pub device : IsErrOf result stops.Device → SomeRose devices_before devices_now × (sink_now ≡ sink_before)
-  pub sink : IsErrOf result stops.Sink → Rose sink_before sink_now × (devices_now ≡ devices_before)
-  pub memory : IsErrOf result stops.Memory → (devices_now ≡ devices_before) × (sink_now ≡ sink_before)
+pub record HasReason {T : Type 0} (old new : ℕ → DeviceView) (sink_before sink_now : ℕ) (result : Result T Stop) : Type 0 where
+  pub ok : OnOk result (sink_now ≡ sink_before)
+  pub device : IsErrOf result stops.Device → SomeRose old new × (sink_now ≡ sink_before)
+  pub sink : IsErrOf result stops.Sink → Rose sink_before sink_now
+  pub memory : IsErrOf result stops.Memory → sink_now ≡ sink_before
 
--- what the calls of lines leave: each device keeps its size, and the counts are as the result tells
-pub record LineCalls {T : Type 0} (sizes_before sizes_now before now : List ℕ) (sink_before sink_now : ℕ) (result : Result T Stop) : Type 0 where
-  pub sizes : sizes_now ≡ sizes_before
-  pub cause : HasReason before now sink_before sink_now result
+-- what the calls of lines leave: as many devices, of their sizes; each goes on; and the counts are as the result tells
+pub record LineCalls {T : Type 0} (count_old count_new : ℕ) (old new : ℕ → DeviceView) (sink_before sink_now : ℕ) (result : Result T Stop) : Type 0 where
+  pub set : SetGoesOn count_old count_new old new
+  pub cause : HasReason old new sink_before sink_now result
 
 -- the images fit a `pool` line
 abbrev pub IsFitFor : Command → List ℕ → List (Option (List ℕ)) → Type 0

@@ -1,98 +1,91 @@
 //! Batches of pieces: taking one, checking it, and the lines that do so.
 
-ghost use Rattle.std.specs.Prelude.{◌≡◌, ◌≤◌, ◌<◌, ◌++◌, ◌∷◌, [], ℕ, List, true, length, map, OnOk, OnErr, IfOk, slice_index_or};
+ghost use Rattle.std.specs.Prelude.{◌≡◌, Err, ◌≤◌, ◌<◌, ◌++◌, ◌∷◌, [], ℕ, List, true, length, map, OnOk, OnErr, IfOk, slice_index_or};
 ghost use Rattle.zs_ids.specs.Graph.{Has};
-ghost use Rattle.zs_ledger.specs.Entry.{AreCopies, HaveCopies};
+ghost use Rattle.zs_ledger.specs.Entry.{HaveCopies};
 ghost use Rattle.zs_machine.specs.declared.event.Event.{Event};
 ghost use Rattle.zs_core.specs.Line.{TookAll};
-ghost use Rattle.zs_machine.specs.Told.{letter_of, issued_of, TellsIssue, line_steps};
-ghost use Rattle.zs_session.specs.Mirror.{LiesOn, AllLieOn, IsChecked, IsEntryOf, Calls};
+ghost use Rattle.zs_machine.specs.Told.{issued_of, TellsIssue, line_steps};
+ghost use Rattle.zs_session.specs.Devices.{Calls, AreDevicesOf, LiesOn, LieOn, journals};
 ghost use Rattle.zs_session.specs.Session.{IsUp, IsReady, Passes, StopsLine, WantsMemory};
-ghost use Rattle.zs_session.specs.Plays.{Went, WentAlone, AreChecks, AreDevicesOf};
+ghost use Rattle.zs_session.specs.Plays.{Went, WentAlone, AreChecks, ChecksItem};
 ghost use Rattle.zs_session.specs.Batches.{HadVerdict, TookLowest, entries_of};
 
 use crate::lines::end_line;
-use crate::mirror::check;
+use crate::rig::Rig;
 use std::alloc::{AllocError, Global};
 use zs_core::{Event, Pool, Step, Verdicts};
 use zs_ids::{Item, Seq};
-use zs_io::{BayFault, Device};
-use zs_ledger::{CopyResult, Entry};
+use zs_io::BayFault;
+use zs_lane::Children;
+use zs_ledger::Entry;
+use zs_machine::letters_of;
+use zs_mirror::check;
 use zs_scan::Batch;
-use zs_script::{Command, IssuedPiece, Letter, Reply};
+use zs_script::{Command, IssuedPiece, Reply};
 
-/// The greatest size of a block in bytes.
-pub const BLOCK_BYTES: usize = 131_072;
-
-/// Checks the items in order, and gives one entry for each, with the letters of its check.
-fn check_items<D: Device>(
+/// Checks the items in order, on mirrors of that width and with that mask of online devices, and gives one entry for each.
+/// Fails only for want of memory.
+fn check_items<C: Children>(
     alloc: Global,
-    devices: &mut [D],
+    rig: &mut Rig<C>,
+    width: u8,
+    online: u32,
     items: &[Item],
-    good: &mut [u8],
-    buf: &mut [u8],
 ) -> Result<Vec<Entry>, BayFault>
-    requires width { length devices.old ≤ 4 }
-    requires on { AllLieOn items.now (map D.size devices.old) }
-    requires good { length good.old ≡ 131072 }
-    requires buf { length buf.old ≡ 131072 }
-    ensures checks { IfOk result (λ entries. AreChecks (length devices.old) items.now (map D.told devices.old) entries.items (map D.told devices.new)) }
-    ensures copies { IfOk result (λ entries. HaveCopies (length devices.old) entries.items) }
-    ensures calls { Calls (map D.size devices.old) (map D.size devices.new) (map D.faults devices.old) (map D.faults devices.new) result }
+    requires lie { LieOn (C.count rig.old.set) width items.now (C.device rig.old.set) }
+    ensures checks { IfOk result
+        (λ entries. AreChecks width online items.now (journals (C.device rig.old.set)) entries.items (journals (C.device rig.new.set))) }
+    ensures copies { IfOk result (λ entries. HaveCopies width entries.items) }
+    ensures memory { OnErr result (result ≡ Err BayFault.Memory) }
+    ensures calls { Calls (C.count rig.old.set) (C.count rig.new.set) (C.device rig.old.set) (C.device rig.new.set) result }
 {
     let mut entries = Vec::new(alloc);
     for item in items {
-        entries.push(check_item(devices, item, good, buf)?)?;
+        entries.push(check_item(rig, width, online, item)?)?;
     }
     Ok(entries)
 }
 
-/// Checks an item.
-fn check_item<D: Device>(
-    devices: &mut [D],
+/// Checks an item. Fails only for want of memory.
+fn check_item<C: Children>(
+    rig: &mut Rig<C>,
+    width: u8,
+    online: u32,
     item: &Item,
-    good: &mut [u8],
-    buf: &mut [u8],
 ) -> Result<Entry, BayFault>
-    requires width { length devices.old ≤ 4 }
-    requires on { LiesOn item.now (map D.size devices.old) }
-    requires good { length good.old ≡ 131072 }
-    requires buf { length buf.old ≡ 131072 }
-    ensures checked { IfOk result (λ entry. IsChecked item.now (length devices.old) (map D.told devices.old) (map D.told devices.new) entry.copies) }
-    ensures entry { IfOk result (λ entry. IsEntryOf item.now entry) }
-    ensures copies { IfOk result (λ entry. AreCopies (length devices.old) entry.copies) }
-    ensures calls { Calls (map D.size devices.old) (map D.size devices.new) (map D.faults devices.old) (map D.faults devices.new) result }
+    requires lies { LiesOn (C.count rig.old.set) width item.now (C.device rig.old.set) }
+    ensures checked { IfOk result
+        (λ entry. ChecksItem width online item.now entry (journals (C.device rig.old.set)) (journals (C.device rig.new.set))) }
+    ensures memory { OnErr result (result ≡ Err BayFault.Memory) }
+    ensures calls { Calls (C.count rig.old.set) (C.count rig.new.set) (C.device rig.old.set) (C.device rig.new.set) result }
 {
-    let sectors = item.sectors;
-    let size = 512 * usize::from(sectors);
-    check(devices, item, &mut good[..size], &mut buf[..size])
+    Ok(check(&mut rig.set, width, online, item, &mut rig.buffers)?)
 }
 
 /// Checks a batch in flight and gives the pool its verdict; how many entries were made. Where it fails, the pool is as it
 /// was.
-pub fn judge<D: Device>(
+pub fn judge<C: Children>(
     alloc: Global,
     pool: &mut Pool,
-    devices: &mut [D],
+    rig: &mut Rig<C>,
     by: u8,
     batch: &Batch,
-    good: &mut [u8],
-    buf: &mut [u8],
 ) -> Result<usize, BayFault>
     requires up { IsUp pool.old }
     requires flies { Has pool.old.core.scan.flight batch.now }
-    requires devices { AreDevicesOf pool.old.core.shape (map D.size devices.old) }
-    requires good { length good.old ≡ 131072 }
-    requires buf { length buf.old ≡ 131072 }
-    ensures goes_on { OnOk result (Went pool.old pool.new (map D.told devices.old) (map D.told devices.new) []) }
+    requires devices { AreDevicesOf pool.old.core.shape (C.count rig.old.set) (C.device rig.old.set) }
+    ensures goes_on { OnOk result (Went pool.old pool.new (journals (C.device rig.old.set)) (journals (C.device rig.new.set)) []) }
     ensures verdict { IfOk result (λ many. HadVerdict by pool.old batch.now many pool.new) }
     ensures graph { OnOk result (pool.new.core.state.graph ≡ pool.old.core.state.graph) }
     ensures up { OnOk result (IsUp pool.new) }
     ensures err { OnErr result (pool.new ≡ pool.old) }
-    ensures calls { Calls (map D.size devices.old) (map D.size devices.new) (map D.faults devices.old) (map D.faults devices.new) result }
+    ensures memory { OnErr result (result ≡ Err BayFault.Memory) }
+    ensures calls { Calls (C.count rig.old.set) (C.count rig.new.set) (C.device rig.old.set) (C.device rig.new.set) result }
 {
     pool.facts();
-    let entries = check_items(alloc, devices, batch.items.as_slice(), good, buf)?;
+    let width = pool.shape().width;
+    let entries = check_items(alloc, rig, width, batch.online, batch.items.as_slice())?;
     let verdicts = Verdicts {
         number: batch.number,
         entries: Seq::from_vec(entries),
@@ -107,7 +100,7 @@ pub fn hold(alloc: Global, pool: &mut Pool, by: u8, vdev: u8, pieces: u32) -> Re
     ensures ready { OnOk result (IsReady pool.new) }
     ensures goes_on { OnOk result (WentAlone pool.old pool.new (Command.Hold vdev pieces ∷ [])) }
     ensures batch { OnOk result (TookLowest pool.old pool.new vdev pieces) }
-    ensures stops { WantsMemory pool.old.history pool.new.history result }
+    ensures stops { WantsMemory pool.old pool.new result }
 {
     pool.facts();
     let batch = pool.hold(by, vdev, pieces)?;
@@ -128,28 +121,26 @@ fn sectors_of(alloc: Global, items: &[Item]) -> Result<Seq<u32>, AllocError>
 }
 
 /// Takes a batch of a mirror's lowest waiting pieces and checks it, as a line.
-pub fn issue<D: Device>(
+pub fn issue<C: Children>(
     alloc: Global,
     pool: &mut Pool,
-    devices: &mut [D],
+    rig: &mut Rig<C>,
     by: u8,
     vdev: u8,
     pieces: u32,
-    good: &mut [u8],
-    buf: &mut [u8],
 ) -> Result<(), BayFault>
     requires ready { IsReady pool.old }
     requires some { 1 ≤ pieces }
-    requires devices { AreDevicesOf pool.old.core.shape (map D.size devices.old) }
-    requires good { length good.old ≡ 131072 }
-    requires buf { length buf.old ≡ 131072 }
+    requires devices { AreDevicesOf pool.old.core.shape (C.count rig.old.set) (C.device rig.old.set) }
     ensures ready { OnOk result (IsReady pool.new) }
-    ensures goes_on { OnOk result (Went pool.old pool.new (map D.told devices.old) (map D.told devices.new) (Command.Issue vdev pieces ∷ [])) }
+    ensures goes_on { OnOk result
+        (Went pool.old pool.new (journals (C.device rig.old.set)) (journals (C.device rig.new.set)) (Command.Issue vdev pieces ∷ [])) }
     ensures batch { OnOk result (TookLowest pool.old pool.new vdev pieces) }
-    ensures stops { StopsLine pool.old.history pool.new.history result }
-    ensures calls { Calls (map D.size devices.old) (map D.size devices.new) (map D.faults devices.old) (map D.faults devices.new) result }
+    ensures stops { StopsLine pool.old pool.new (journals (C.device rig.old.set)) (journals (C.device rig.new.set)) result }
+    ensures memory { OnErr result (result ≡ Err BayFault.Memory) }
+    ensures calls { Calls (C.count rig.old.set) (C.count rig.new.set) (C.device rig.old.set) (C.device rig.new.set) result }
 {
-    let shown = check_some(alloc, pool, devices, by, vdev, pieces, good, buf)?;
+    let shown = check_some(alloc, pool, rig, by, vdev, pieces)?;
     let reply = Reply::Issued {
         vdev,
         pieces: shown,
@@ -158,35 +149,32 @@ pub fn issue<D: Device>(
 }
 
 /// Takes a batch of a mirror's lowest waiting pieces and checks it, where any waits; what the checks found.
-fn check_some<D: Device>(
+fn check_some<C: Children>(
     alloc: Global,
     pool: &mut Pool,
-    devices: &mut [D],
+    rig: &mut Rig<C>,
     by: u8,
     vdev: u8,
     pieces: u32,
-    good: &mut [u8],
-    buf: &mut [u8],
 ) -> Result<Seq<IssuedPiece>, BayFault>
     requires ready { IsReady pool.old }
     requires some { 1 ≤ pieces }
-    requires devices { AreDevicesOf pool.old.core.shape (map D.size devices.old) }
-    requires good { length good.old ≡ 131072 }
-    requires buf { length buf.old ≡ 131072 }
+    requires devices { AreDevicesOf pool.old.core.shape (C.count rig.old.set) (C.device rig.old.set) }
     ensures told { IfOk result (λ shown. TellsIssue (line_steps pool.new.history) vdev pieces shown) }
     ensures all { IfOk result (λ shown. TookAll pool.new.core.scan vdev pieces (length shown)) }
     ensures up { OnOk result (IsUp pool.new) }
-    ensures goes_on { OnOk result (Went pool.old pool.new (map D.told devices.old) (map D.told devices.new) []) }
+    ensures goes_on { OnOk result (Went pool.old pool.new (journals (C.device rig.old.set)) (journals (C.device rig.new.set)) []) }
     ensures batch { OnOk result (TookLowest pool.old pool.new vdev pieces) }
-    ensures passes { Passes pool.old.history pool.new.history result }
-    ensures calls { Calls (map D.size devices.old) (map D.size devices.new) (map D.faults devices.old) (map D.faults devices.new) result }
+    ensures passes { Passes pool.old pool.new (journals (C.device rig.old.set)) (journals (C.device rig.new.set)) result }
+    ensures memory { OnErr result (result ≡ Err BayFault.Memory) }
+    ensures calls { Calls (C.count rig.old.set) (C.count rig.new.set) (C.device rig.old.set) (C.device rig.new.set) result }
 {
     pool.facts();
     let batch = pool.hold(by, vdev, pieces)?;
     if batch.items.len() == 0 {
         return Ok(Seq::new(alloc));
     }
-    judge(alloc, pool, devices, by, &batch, good, buf)?;
+    judge(alloc, pool, rig, by, &batch)?;
     Ok(issued_last(alloc, pool.history())?)
 }
 
@@ -205,7 +193,7 @@ pub fn entries_of(step: &Step) -> &[Entry]
     ensures { result.now ≡ entries_of step.now }
 {
     match step {
-        Step::Verdict { entries, .. } => entries.as_slice(),
+        Step::Verdict { entries, .. } => entries.get().as_slice(),
         _ => &[],
     }
 }
@@ -228,32 +216,5 @@ fn issued_of(entry: &Entry) -> IssuedPiece
     IssuedPiece {
         sector: entry.piece.place.sector,
         letters: letters_of(entry),
-    }
-}
-
-/// The letters of an entry's copies.
-pub fn letters_of(entry: &Entry) -> [Option<Letter>; 4]
-    ensures { result ≡ map letter_of entry.now.copies }
-{
-    let [first, second, third, fourth] = entry.copies;
-    [
-        letter_of(first),
-        letter_of(second),
-        letter_of(third),
-        letter_of(fourth),
-    ]
-}
-
-/// The letter of a copy; none where the mirror has no such copy.
-fn letter_of(copy: CopyResult) -> Option<Letter>
-    ensures { result ≡ letter_of copy }
-{
-    match copy {
-        CopyResult::Missing => None,
-        CopyResult::Good => Some(Letter::Good),
-        CopyResult::Rewritten => Some(Letter::Rewritten),
-        CopyResult::Bad => Some(Letter::Bad),
-        CopyResult::Fault => Some(Letter::Fault),
-        CopyResult::Absent => Some(Letter::Absent),
     }
 }

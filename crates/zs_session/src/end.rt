@@ -14,7 +14,7 @@ pub enum End {
     Fault,
     /// `pool` refused the images.
     Unfit,
-    /// A device or the bay failed.
+    /// A device failed in a sync's data, a head could not be read, or an image could not be had.
     Device,
     /// The source failed.
     Source,

@@ -4,12 +4,12 @@ ghost use Rattle.std.specs.Prelude.{◌≡◌, ◌≤◌, ◌<◌, ◌+◌, ◌*
 ghost use Rattle.zs_io.specs.Told.{Told};
 ghost use Rattle.zs_io.specs.Faults.{HasCause};
 ghost use Rattle.zs_script.specs.declared.refusal.Refusal.{Refusal};
-ghost use Rattle.zs_session.specs.Mirror.{told_at, Calls};
-ghost use Rattle.zs_session.specs.Images.{head_of, is_zero, least_sectors, most_sectors, AreFit, AreBlank, SomeWritten, IsImageFault, IsSizeFault, AreFresh, AreSectors, TestCalls, AsksAll, AsksFirst};
+ghost use Rattle.zs_session.specs.Images.{of_each, devices_of, told_at, head_of, is_zero, least_sectors, most_sectors, AreFit, AreBlank, SomeWritten, IsImageFault, IsSizeFault};
+ghost use Rattle.zs_session.specs.Images.{AreSectors, AreNew, AreFirstOf, AsksAll, AsksFirst, HeadCalls, BlankCalls, TestCalls, ReadsFirst};
 
-use crate::mirror::read_device;
 use std::alloc::{AllocError, AllocFailed, Global};
 use zs_io::{Bay, BayFault, Device};
+use zs_lane::{Children, Lane, LaneFault};
 use zs_script::Refusal;
 
 /// The bytes of an image in which a label could lie.
@@ -49,20 +49,22 @@ impl<T: Drop> From<AllocFailed<T>> for ImageFault {
     }
 }
 
-/// Fetches the images of these names in their order, and puts them into the list, which is empty. No name is asked for
-/// twice, and none behind one that can't be had.
+/// Fetches the images of these names in their order, and puts each into a lane of its own in the list, which is empty. No
+/// name is asked for twice, and none behind one that can't be had.
 pub fn fetch_images<B: Bay>(
+    alloc: Global,
     names: &[String],
     bay: &mut B,
-    devices: &mut Vec<B::Dev>,
+    lanes: &mut Vec<Lane<B::Dev>>,
 ) -> Result<(), BayFault>
-    requires { devices.old.items ≡ [] }
-    ensures left { OnOk result (B.left bay.old ≡ option_map (λ rest. devices.new.items ++ rest) (B.left bay.new)) }
-    ensures count { OnOk result (length devices.new.items ≡ length names.now) }
-    ensures fewer { OnErr result (length devices.new.items < length names.now) }
+    requires { lanes.old.items ≡ [] }
+    ensures left { OnOk result (B.left bay.old ≡ option_map (λ rest. devices_of lanes.new.items ++ rest) (B.left bay.new)) }
+    ensures first { AreFirstOf (B.left bay.old) (devices_of lanes.new.items) }
+    ensures count { OnOk result (length lanes.new.items ≡ length names.now) }
+    ensures fewer { OnErr result (length lanes.new.items < length names.now) }
     ensures asked { OnOk result (AsksAll (map string_bytes names.now) (B.asked bay.old) (B.asked bay.new)) }
     ensures asked_cut { AsksFirst (map string_bytes names.now) (B.asked bay.old) (B.asked bay.new) }
-    ensures fresh { AreFresh (map B.Dev.faults devices.new.items) }
+    ensures new { AreNew B.Dev.faults lanes.new.items }
     ensures cause { HasCause (B.faults bay.old) (B.faults bay.new) result }
 {
     for name in names {
@@ -70,7 +72,7 @@ pub fn fetch_images<B: Bay>(
             Ok(device) => device,
             Err(fault) => return Err(fault),
         };
-        match devices.push(device) {
+        match lanes.push(Lane::new(alloc, device)) {
             Ok(()) => {}
             Err(_) => return Err(BayFault::Memory),
         }
@@ -79,20 +81,20 @@ pub fn fetch_images<B: Bay>(
 }
 
 /// Whether the head of an image is blank.
-fn is_blank<D: Device>(devices: &mut [D], i: usize, buf: &mut [u8]) -> Result<bool, BayFault>
-    requires device { i < length devices.old }
+fn is_blank<D: Device>(lanes: &mut Vec<Lane<D>>, dev: u8, buf: &mut [u8]) -> Result<bool, BayFault>
+    requires device { dev < length lanes.old.items }
     requires size { length buf.old ≡ 2048 }
     ensures blank { IfOk result
-        (λ blank. Told (told_at (map D.told devices.old) i)
-        (λ bytes. blank ≡ is_zero (head_of (slice_index (map D.size devices.old) i) bytes))) }
-    ensures told { map D.told devices.new ≡ map D.told devices.old }
-    ensures calls { Calls (map D.size devices.old) (map D.size devices.new) (map D.faults devices.old) (map D.faults devices.new) result }
+        (λ blank. Told (told_at (of_each D.told lanes.old.items) dev)
+        (λ bytes. blank ≡ is_zero (head_of (slice_index (of_each D.size lanes.old.items) dev) bytes))) }
+    ensures calls { HeadCalls D.Device dev lanes.old.items lanes.new.items result }
 {
-    let len = size_at(devices, i).min(HEAD) as usize;
+    let len = size_at(lanes, usize::from(dev)).min(HEAD) as usize;
     let head = &mut buf[..len];
-    match read_device(devices, i, 0, head) {
-        Ok(()) => Ok(is_zero(head)),
-        Err(fault) => Err(fault),
+    match lanes.read(dev, 0, head) {
+        Ok(_) => Ok(is_zero(head)),
+        Err(LaneFault::Failed(_)) => Err(BayFault::Failed),
+        Err(LaneFault::Memory) => Err(BayFault::Memory),
     }
 }
 
@@ -104,27 +106,38 @@ fn is_zero(bytes: &[u8]) -> bool
 }
 
 /// Whether the head of each image is blank.
-fn are_blank<D: Device>(alloc: Global, devices: &mut [D]) -> Result<bool, BayFault>
-    ensures blank { IfOk result (λ blank. blank ≡ true → AreBlank (map D.size devices.old) (map D.told devices.old)) }
-    ensures written { IfOk result (λ blank. blank ≡ false → SomeWritten (map D.size devices.old) (map D.told devices.old)) }
-    ensures told { map D.told devices.new ≡ map D.told devices.old }
-    ensures calls { Calls (map D.size devices.old) (map D.size devices.new) (map D.faults devices.old) (map D.faults devices.new) result }
+fn are_blank<D: Device>(
+    alloc: Global,
+    lanes: &mut Vec<Lane<D>>,
+    width: u8,
+) -> Result<bool, BayFault>
+    requires { length lanes.old.items ≡ width }
+    ensures blank { IfOk result (λ blank. blank ≡ true → AreBlank (of_each D.size lanes.old.items) (of_each D.told lanes.old.items)) }
+    ensures written { IfOk result (λ blank. blank ≡ false → SomeWritten (of_each D.size lanes.old.items) (of_each D.told lanes.old.items)) }
+    ensures heads { IfOk result (λ blank. blank ≡ true → ReadsFirst D.Device width lanes.old.items lanes.new.items) }
+    ensures calls { BlankCalls D.Device lanes.old.items lanes.new.items result }
 {
     let Ok(mut buf) = vec![in alloc; 0; HEAD as usize] else {
         return Err(BayFault::Memory);
     };
-    are_blank_by(devices, &mut buf)
+    are_blank_by(lanes, width, &mut buf)
 }
 
-fn are_blank_by<D: Device>(devices: &mut [D], buf: &mut [u8]) -> Result<bool, BayFault>
+/// The same, with a buffer for a head.
+fn are_blank_by<D: Device>(
+    lanes: &mut Vec<Lane<D>>,
+    width: u8,
+    buf: &mut [u8],
+) -> Result<bool, BayFault>
+    requires count { length lanes.old.items ≡ width }
     requires size { length buf.old ≡ 2048 }
-    ensures blank { IfOk result (λ blank. blank ≡ true → AreBlank (map D.size devices.old) (map D.told devices.old)) }
-    ensures written { IfOk result (λ blank. blank ≡ false → SomeWritten (map D.size devices.old) (map D.told devices.old)) }
-    ensures told { map D.told devices.new ≡ map D.told devices.old }
-    ensures calls { Calls (map D.size devices.old) (map D.size devices.new) (map D.faults devices.old) (map D.faults devices.new) result }
+    ensures blank { IfOk result (λ blank. blank ≡ true → AreBlank (of_each D.size lanes.old.items) (of_each D.told lanes.old.items)) }
+    ensures written { IfOk result (λ blank. blank ≡ false → SomeWritten (of_each D.size lanes.old.items) (of_each D.told lanes.old.items)) }
+    ensures heads { IfOk result (λ blank. blank ≡ true → ReadsFirst D.Device width lanes.old.items lanes.new.items) }
+    ensures calls { BlankCalls D.Device lanes.old.items lanes.new.items result }
 {
-    for i in 0..devices.len() {
-        match is_blank(devices, i, buf) {
+    for dev in 0..width {
+        match is_blank(lanes, dev, buf) {
             Ok(true) => {}
             Ok(false) => return Ok(false),
             Err(fault) => return Err(fault),
@@ -134,28 +147,28 @@ fn are_blank_by<D: Device>(devices: &mut [D], buf: &mut [u8]) -> Result<bool, Ba
 }
 
 /// The size of an image in bytes.
-pub fn size_at<D: Device>(devices: &[D], i: usize) -> u64
-    requires { i < length devices.now }
-    ensures { result ≡ slice_index (map D.size devices.now) i }
+fn size_at<D: Device>(lanes: &[Lane<D>], i: usize) -> u64
+    requires { i < length lanes.now }
+    ensures { result ≡ slice_index (of_each D.size lanes.now) i }
 {
-    devices[i].bytes()
+    lanes[i].bytes()
 }
 
 /// Whether no image has too few sectors for that many blocks, and none too many.
-fn test_sizes<D: Device>(devices: &[D], blocks: u32) -> Result<(), ImageFault>
-    ensures least { OnOk result ((k : ℕ) → k < length devices.now → least_sectors blocks ≤ slice_index (map D.size devices.now) k / 512) }
-    ensures most { OnOk result ((k : ℕ) → k < length devices.now → slice_index (map D.size devices.now) k / 512 ≤ most_sectors) }
-    ensures unfit { (fault : Refusal) → IsErrOf result (ImageFault.Unfit fault) → IsSizeFault blocks (map D.size devices.now) fault }
+fn test_sizes<D: Device>(lanes: &[Lane<D>], blocks: u32) -> Result<(), ImageFault>
+    ensures least { OnOk result ((k : ℕ) → k < length lanes.now → least_sectors blocks ≤ slice_index (of_each D.size lanes.now) k / 512) }
+    ensures most { OnOk result ((k : ℕ) → k < length lanes.now → slice_index (of_each D.size lanes.now) k / 512 ≤ most_sectors) }
+    ensures unfit { (fault : Refusal) → IsErrOf result (ImageFault.Unfit fault) → IsSizeFault blocks (of_each D.size lanes.now) fault }
     ensures only { result ≢ Err ImageFault.Unread }
 {
     let least = 8 + 2 * (128 + u64::from(blocks) / 4) + 32;
-    for i in 0..devices.len() {
-        if size_at(devices, i) / 512 < least {
+    for i in 0..lanes.len() {
+        if size_at(lanes, i) / 512 < least {
             return Err(ImageFault::Unfit(Refusal::TooSmall));
         }
     }
-    for i in 0..devices.len() {
-        if size_at(devices, i) / 512 > MOST_SECTORS {
+    for i in 0..lanes.len() {
+        if size_at(lanes, i) / 512 > MOST_SECTORS {
             return Err(ImageFault::Unfit(Refusal::TooLarge));
         }
     }
@@ -163,15 +176,15 @@ fn test_sizes<D: Device>(devices: &[D], blocks: u32) -> Result<(), ImageFault>
 }
 
 /// The number of sectors of each image.
-fn sectors_of<D: Device>(alloc: Global, devices: &[D]) -> Result<Vec<u32>, ImageFault>
-    requires { (k : ℕ) → k < length devices.now → slice_index (map D.size devices.now) k / 512 ≤ most_sectors }
-    ensures count { IfOk result (λ sectors. length sectors.items ≡ length devices.now) }
-    ensures sectors { IfOk result (λ sectors. (k : ℕ) → k < length devices.now → slice_index sectors.items k ≡ slice_index (map D.size devices.now) k / 512) }
+fn sectors_of<D: Device>(alloc: Global, lanes: &[Lane<D>]) -> Result<Vec<u32>, ImageFault>
+    requires { (k : ℕ) → k < length lanes.now → slice_index (of_each D.size lanes.now) k / 512 ≤ most_sectors }
+    ensures count { IfOk result (λ sectors. length sectors.items ≡ length lanes.now) }
+    ensures sectors { IfOk result (λ sectors. (k : ℕ) → k < length lanes.now → slice_index sectors.items k ≡ slice_index (of_each D.size lanes.now) k / 512) }
     ensures memory { OnErr result (result ≡ Err ImageFault.Memory) }
 {
     let mut sectors = Vec::new(alloc);
-    for i in 0..devices.len() {
-        match sectors.push((size_at(devices, i) / 512) as u32) {
+    for i in 0..lanes.len() {
+        match sectors.push((size_at(lanes, i) / 512) as u32) {
             Ok(()) => {}
             Err(_) => return Err(ImageFault::Memory),
         }
@@ -184,31 +197,30 @@ fn sectors_of<D: Device>(alloc: Global, devices: &[D]) -> Result<Vec<u32>, Image
 /// TooLarge of each.
 pub fn test_images<D: Device>(
     alloc: Global,
-    devices: &mut [D],
+    lanes: &mut Vec<Lane<D>>,
     width: u8,
     blocks: u32,
 ) -> Result<Vec<u32>, ImageFault>
-    ensures fit { OnOk result (AreFit width blocks (map D.size devices.old) (map D.told devices.old)) }
-    ensures sectors { IfOk result (λ sectors. AreSectors width blocks (length devices.old) (map D.size devices.old) sectors.items) }
+    ensures fit { OnOk result (AreFit width blocks (of_each D.size lanes.old.items) (of_each D.told lanes.old.items)) }
+    ensures sectors { IfOk result (λ sectors. AreSectors width blocks (length lanes.old.items) (of_each D.size lanes.old.items) sectors.items) }
     ensures unfit { (fault : Refusal) → IsErrOf result (ImageFault.Unfit fault) →
-        IsImageFault width blocks (map D.size devices.old) (map D.told devices.old) fault }
-    ensures told { map D.told devices.new ≡ map D.told devices.old }
-    ensures calls { TestCalls (map D.size devices.old) (map D.size devices.new) (map D.faults devices.old) (map D.faults devices.new) result }
+        IsImageFault width blocks (of_each D.size lanes.old.items) (of_each D.told lanes.old.items) fault }
+    ensures calls { TestCalls D.Device lanes.old.items lanes.new.items result }
 {
-    if devices.len() != usize::from(width) {
+    if lanes.len() != usize::from(width) {
         return Err(ImageFault::Unfit(Refusal::Shape));
     }
-    match are_blank(alloc, devices) {
+    match are_blank(alloc, lanes, width) {
         Ok(true) => {}
         Ok(false) => return Err(ImageFault::Unfit(Refusal::NotBlank)),
         Err(BayFault::Failed) => return Err(ImageFault::Unread),
         Err(BayFault::Memory) => return Err(ImageFault::Memory),
     }
-    match test_sizes(devices, blocks) {
+    match test_sizes(lanes, blocks) {
         Ok(()) => {}
         Err(fault) => return Err(fault),
     }
-    match sectors_of(alloc, devices) {
+    match sectors_of(alloc, lanes) {
         Ok(sectors) => Ok(sectors),
         Err(fault) => Err(fault),
     }

@@ -7,18 +7,21 @@ ghost use Rattle.zs_scan.specs.Flight.{first_of};
 ghost use Rattle.zs_ids.specs.Piece.{is_piece};
 ghost use Rattle.zs_machine.specs.History.{text_of};
 ghost use Rattle.zs_machine.specs.Told.{letter_of, landed_of, shown_by};
-ghost use Rattle.zs_session.specs.Mirror.{Calls};
+ghost use Rattle.zs_session.specs.Devices.{Calls, AreDevicesOf, journals};
 ghost use Rattle.zs_session.specs.Session.{IsUp, IsReady, Passes, StopsLine};
-ghost use Rattle.zs_session.specs.Plays.{Went, AreDevicesOf};
+ghost use Rattle.zs_session.specs.Plays.{Went};
 ghost use Rattle.zs_session.specs.Batches.{LandsNext, HasLanded, GoesOnScanning};
 
-use crate::batches::{entries_of, judge, letters_of};
+use crate::batches::{entries_of, judge};
 use crate::lines::end_line;
+use crate::rig::Rig;
 use std::alloc::{AllocError, Global};
 use zs_core::{Event, Pool, Step};
 use zs_ids::{Piece, Seq};
-use zs_io::{BayFault, Device};
+use zs_io::BayFault;
+use zs_lane::Children;
 use zs_ledger::Entry;
+use zs_machine::letters_of;
 use zs_scan::{Batch, Scan};
 use zs_script::{Command, LandedPiece, Letter, Reply};
 
@@ -39,59 +42,53 @@ fn first_batch(alloc: Global, scan: &Scan) -> Result<Option<Batch>, AllocError>
 }
 
 /// Checks the batch that was taken first of those in flight, where one is; how many entries were made.
-pub fn land_next<D: Device>(
+pub fn land_next<C: Children>(
     alloc: Global,
     pool: &mut Pool,
-    devices: &mut [D],
+    rig: &mut Rig<C>,
     by: u8,
-    good: &mut [u8],
-    buf: &mut [u8],
 ) -> Result<Option<usize>, BayFault>
     requires up { IsUp pool.old }
-    requires devices { AreDevicesOf pool.old.core.shape (map D.size devices.old) }
-    requires good { length good.old ≡ 131072 }
-    requires buf { length buf.old ≡ 131072 }
+    requires devices { AreDevicesOf pool.old.core.shape (C.count rig.old.set) (C.device rig.old.set) }
     ensures next { LandsNext by pool.old pool.new result }
-    ensures goes_on { OnOk result (Went pool.old pool.new (map D.told devices.old) (map D.told devices.new) []) }
+    ensures goes_on { OnOk result (Went pool.old pool.new (journals (C.device rig.old.set)) (journals (C.device rig.new.set)) []) }
     ensures silent { text_of pool.new.history ≡ text_of pool.old.history }
     ensures scan { OnOk result (GoesOnScanning pool.old.core pool.new.core) }
     ensures up { OnOk result (IsUp pool.new) }
     ensures err { OnErr result (pool.new ≡ pool.old) }
-    ensures calls { Calls (map D.size devices.old) (map D.size devices.new) (map D.faults devices.old) (map D.faults devices.new) result }
+    ensures memory { OnErr result (result ≡ Err BayFault.Memory) }
+    ensures calls { Calls (C.count rig.old.set) (C.count rig.new.set) (C.device rig.old.set) (C.device rig.new.set) result }
 {
     let Some(batch) = first_batch(alloc, pool.scan())? else {
         return Ok(None);
     };
-    Ok(Some(judge(alloc, pool, devices, by, &batch, good, buf)?))
+    Ok(Some(judge(alloc, pool, rig, by, &batch)?))
 }
 
 /// Checks the batch that was taken first of those in flight, where one is, and puts what became of its pieces to what was
 /// landed before; how many entries were made in all.
-fn land_more<D: Device>(
+fn land_more<C: Children>(
     alloc: Global,
     pool: &mut Pool,
-    devices: &mut [D],
+    rig: &mut Rig<C>,
     by: u8,
     made: u32,
     landed: &mut Vec<LandedPiece>,
-    good: &mut [u8],
-    buf: &mut [u8],
 ) -> Result<Option<u32>, BayFault>
     requires up { IsUp pool.old }
     requires landed { HasLanded pool.old made landed.old.items }
-    requires devices { AreDevicesOf pool.old.core.shape (map D.size devices.old) }
-    requires good { length good.old ≡ 131072 }
-    requires buf { length buf.old ≡ 131072 }
+    requires devices { AreDevicesOf pool.old.core.shape (C.count rig.old.set) (C.device rig.old.set) }
     ensures none { result ≡ Ok None → (pool.old.core.scan.flight ≡ []) × (pool.new ≡ pool.old) × (landed.new ≡ landed.old) }
     ensures landed { IfOk result (λ next. IfSome next (λ made. HasLanded pool.new made landed.new.items)) }
     ensures fewer { (made : ℕ) → result ≡ Ok (Some made) → length pool.new.core.scan.flight < length pool.old.core.scan.flight }
     ensures up { OnOk result (IsUp pool.new) }
-    ensures goes_on { OnOk result (Went pool.old pool.new (map D.told devices.old) (map D.told devices.new) []) }
-    ensures passes { Passes pool.old.history pool.new.history result }
-    ensures calls { Calls (map D.size devices.old) (map D.size devices.new) (map D.faults devices.old) (map D.faults devices.new) result }
+    ensures goes_on { OnOk result (Went pool.old pool.new (journals (C.device rig.old.set)) (journals (C.device rig.new.set)) []) }
+    ensures passes { Passes pool.old pool.new (journals (C.device rig.old.set)) (journals (C.device rig.new.set)) result }
+    ensures memory { OnErr result (result ≡ Err BayFault.Memory) }
+    ensures calls { Calls (C.count rig.old.set) (C.count rig.new.set) (C.device rig.old.set) (C.device rig.new.set) result }
 {
     pool.facts();
-    let Some(many) = land_next(alloc, pool, devices, by, good, buf)? else {
+    let Some(many) = land_next(alloc, pool, rig, by)? else {
         return Ok(None);
     };
     show_last(pool.history(), landed)?;
@@ -120,7 +117,7 @@ fn show(step: &Step, landed: &mut Vec<LandedPiece>) -> Result<(), AllocError>
             pieces,
             entries,
             ..
-        } => show_each(pieces.as_slice(), entries.as_slice(), landed),
+        } => show_each(pieces.get().as_slice(), entries.get().as_slice(), landed),
         _ => Ok(()),
     }
 }
@@ -172,30 +169,27 @@ fn is_piece(piece: &Piece, other: &Piece) -> bool
 
 /// Checks all batches in flight, in the order in which they were taken, and puts what became of their pieces into the list,
 /// which is empty; how many entries were made.
-fn land_each<D: Device>(
+fn land_each<C: Children>(
     alloc: Global,
     pool: &mut Pool,
-    devices: &mut [D],
+    rig: &mut Rig<C>,
     by: u8,
     landed: &mut Vec<LandedPiece>,
-    good: &mut [u8],
-    buf: &mut [u8],
 ) -> Result<u32, BayFault>
     requires ready { IsReady pool.old }
     requires empty { landed.old.items ≡ [] }
-    requires devices { AreDevicesOf pool.old.core.shape (map D.size devices.old) }
-    requires good { length good.old ≡ 131072 }
-    requires buf { length buf.old ≡ 131072 }
+    requires devices { AreDevicesOf pool.old.core.shape (C.count rig.old.set) (C.device rig.old.set) }
     ensures landed { IfOk result (λ made. HasLanded pool.new made landed.new.items) }
     ensures all { OnOk result (pool.new.core.scan.flight ≡ []) }
     ensures up { OnOk result (IsUp pool.new) }
-    ensures goes_on { OnOk result (Went pool.old pool.new (map D.told devices.old) (map D.told devices.new) []) }
-    ensures passes { Passes pool.old.history pool.new.history result }
-    ensures calls { Calls (map D.size devices.old) (map D.size devices.new) (map D.faults devices.old) (map D.faults devices.new) result }
+    ensures goes_on { OnOk result (Went pool.old pool.new (journals (C.device rig.old.set)) (journals (C.device rig.new.set)) []) }
+    ensures passes { Passes pool.old pool.new (journals (C.device rig.old.set)) (journals (C.device rig.new.set)) result }
+    ensures memory { OnErr result (result ≡ Err BayFault.Memory) }
+    ensures calls { Calls (C.count rig.old.set) (C.count rig.new.set) (C.device rig.old.set) (C.device rig.new.set) result }
 {
     let mut made = 0;
     loop {
-        match land_more(alloc, pool, devices, by, made, landed, good, buf)? {
+        match land_more(alloc, pool, rig, by, made, landed)? {
             Some(more) => made = more,
             None => return Ok(made),
         }
@@ -203,25 +197,22 @@ fn land_each<D: Device>(
 }
 
 /// Checks all batches in flight, as a line.
-pub fn land<D: Device>(
+pub fn land<C: Children>(
     alloc: Global,
     pool: &mut Pool,
-    devices: &mut [D],
+    rig: &mut Rig<C>,
     by: u8,
-    good: &mut [u8],
-    buf: &mut [u8],
 ) -> Result<(), BayFault>
     requires ready { IsReady pool.old }
-    requires devices { AreDevicesOf pool.old.core.shape (map D.size devices.old) }
-    requires good { length good.old ≡ 131072 }
-    requires buf { length buf.old ≡ 131072 }
+    requires devices { AreDevicesOf pool.old.core.shape (C.count rig.old.set) (C.device rig.old.set) }
     ensures ready { OnOk result (IsReady pool.new) }
-    ensures goes_on { OnOk result (Went pool.old pool.new (map D.told devices.old) (map D.told devices.new) (Command.Land ∷ [])) }
-    ensures stops { StopsLine pool.old.history pool.new.history result }
-    ensures calls { Calls (map D.size devices.old) (map D.size devices.new) (map D.faults devices.old) (map D.faults devices.new) result }
+    ensures goes_on { OnOk result (Went pool.old pool.new (journals (C.device rig.old.set)) (journals (C.device rig.new.set)) (Command.Land ∷ [])) }
+    ensures stops { StopsLine pool.old pool.new (journals (C.device rig.old.set)) (journals (C.device rig.new.set)) result }
+    ensures memory { OnErr result (result ≡ Err BayFault.Memory) }
+    ensures calls { Calls (C.count rig.old.set) (C.count rig.new.set) (C.device rig.old.set) (C.device rig.new.set) result }
 {
     let mut landed = Vec::new(alloc);
-    let entries = land_each(alloc, pool, devices, by, &mut landed, good, buf)?;
+    let entries = land_each(alloc, pool, rig, by, &mut landed)?;
     pool.facts();
     let reply = Reply::Landed {
         entries,

@@ -11,8 +11,8 @@
 //! A line that left out a step of its own, or made one more, would have no such history.
 //!
 //! Where to change what: a new form of the command line in `step`; what a line does in `lines`, and of those of a scan in
-//! `turns`, `batches`, `landing` and `finishing`; how the images of a pool are tested in `images`; what is read, checked and
-//! written on the devices in `mirror`. The runs of whole scripts that test all this stand in `zscan`.
+//! `turns`, `batches`, `landing` and `finishing`; how the images of a pool are tested in `images`; how a sync's blocks are
+//! written in `write`. What is read, checked and repaired on the devices is `zs_mirror`'s. The runs of whole scripts that test all this stand in `zscan`.
 #![tactic(auto)]
 
 mod batches;
@@ -21,11 +21,13 @@ mod finishing;
 mod images;
 mod landing;
 mod lines;
-mod mirror;
+mod rig;
+mod rot;
 mod session;
 mod step;
 mod stop;
 mod turns;
+mod write;
 
 pub use session::{Ended, Session};
 pub use step::run_step;

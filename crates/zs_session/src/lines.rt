@@ -6,50 +6,71 @@ ghost use Rattle.zs_core.specs.Line.{IsLineReply};
 ghost use Rattle.zs_core.specs.Reading.{IsGotFor};
 ghost use Rattle.zs_core.specs.Calls.{IsPoolCommand};
 ghost use Rattle.zs_script.specs.Lines.{IsLater};
-ghost use Rattle.zs_session.specs.Mirror.{Calls};
+ghost use Rattle.zs_machine.specs.declared.event.Step.{Step};
+ghost use Rattle.zs_machine.specs.History.{AddsEvent};
+ghost use Rattle.zs_session.specs.Devices.{Calls, AreDevicesOf, journals};
 ghost use Rattle.zs_session.specs.OpenReads.{AwaitsRead, EndsOpenRead};
 ghost use Rattle.zs_session.specs.Session.{IsUp, IsReady, StopsLine, StopsIn, WantsMemory};
-ghost use Rattle.zs_session.specs.Plays.{Went, WentAlone, AreDevicesOf};
+ghost use Rattle.zs_session.specs.Plays.{EndsAlone, Went, WentAlone};
 
 use crate::batches::{hold, issue};
 use crate::finishing::{finish, sync};
 use crate::landing::land;
-use crate::mirror::read_any;
+use crate::rig::Rig;
+use crate::rot::rot;
 use crate::turns::walk;
 use std::alloc::Global;
 use zs_core::{Pool, PoolFault, ReadPlan};
 use zs_ids::DsName;
-use zs_io::{BayFault, Device};
+use zs_io::BayFault;
+use zs_lane::Children;
+use zs_mirror::{ReadFault, read_any};
 use zs_script::{Command, Line, Reply};
 
-/// Records that a line ended, with its reply. Fails only for want of memory.
+/// Records that a line ended that marked nothing by itself, with its reply: each but a `rot`, for which `end_marked` is.
+/// Fails only for want of memory.
 pub fn end_line(pool: &mut Pool, by: u8, command: &Command, reply: Reply) -> Result<(), BayFault>
     requires reply { IsLineReply pool.old command.now reply }
     requires up { IsUp pool.old }
     ensures ready { OnOk result (IsReady pool.new) }
-    ensures goes_on { OnOk result (WentAlone pool.old pool.new (command.now ∷ [])) }
-    ensures stops { WantsMemory pool.old.history pool.new.history result }
+    ensures goes_on { OnOk result (EndsAlone command.now pool.old pool.new) }
+    ensures stops { WantsMemory pool.old pool.new result }
+{
+    end_marked(pool, by, command, reply)
+}
+
+/// Records that a line ended, with its reply, whatever it marked by itself. Fails only for want of memory.
+pub fn end_marked(pool: &mut Pool, by: u8, command: &Command, reply: Reply) -> Result<(), BayFault>
+    requires reply { IsLineReply pool.old command.now reply }
+    requires up { IsUp pool.old }
+    ensures ready { OnOk result (IsReady pool.new) }
+    ensures adds { OnOk result (AddsEvent by (Step.Line command.now) reply pool.old.history pool.new.history) }
+    ensures shape { OnOk result (pool.new.core.shape ≡ pool.old.core.shape) }
+    ensures stops { WantsMemory pool.old pool.new result }
 {
     Ok(pool.line(by, command, reply)?)
 }
 
-/// Reads a record. A read that is not refused ends in the same line, by the bytes that were read.
-fn read<D: Device>(
+/// Reads a record. A read that is not refused ends in the same line, by the bytes that were read. Fails only for want of
+/// memory.
+fn read<C: Children>(
+    alloc: Global,
     pool: &mut Pool,
-    devices: &mut [D],
+    rig: &mut Rig<C>,
     by: u8,
     ds: &DsName,
     object: u16,
     leaf: u32,
-    buf: &mut [u8],
 ) -> Result<(), BayFault>
     requires ready { IsReady pool.old }
-    requires devices { AreDevicesOf pool.old.core.shape (map D.size devices.old) }
-    requires buf { length buf.old ≡ 131072 }
+    requires devices { AreDevicesOf pool.old.core.shape (C.count rig.old.set) (C.device rig.old.set) }
     ensures ready { OnOk result (IsReady pool.new) }
-    ensures goes_on { OnOk result (Went pool.old pool.new (map D.told devices.old) (map D.told devices.new) (Command.Read ds.now object leaf ∷ [])) }
-    ensures stops { StopsIn pool.old.history pool.new.history (Command.Read ds.now object leaf ∷ []) result }
-    ensures calls { Calls (map D.size devices.old) (map D.size devices.new) (map D.faults devices.old) (map D.faults devices.new) result }
+    ensures goes_on { OnOk result
+        (Went pool.old pool.new (journals (C.device rig.old.set)) (journals (C.device rig.new.set)) (Command.Read ds.now object leaf ∷ [])) }
+    ensures stops { StopsIn pool.old pool.new (journals (C.device rig.old.set)) (journals (C.device rig.new.set))
+        (Command.Read ds.now object leaf ∷ []) result }
+    ensures memory { OnErr result (result ≡ Err BayFault.Memory) }
+    ensures calls { Calls (C.count rig.old.set) (C.count rig.new.set) (C.device rig.old.set) (C.device rig.new.set) result }
 {
     pool.facts();
     let plan = match pool.read_begin(by, ds, object, leaf) {
@@ -58,49 +79,55 @@ fn read<D: Device>(
         Err(PoolFault::Memory) => return Err(BayFault::Memory),
     };
     match plan {
-        ReadPlan::Staged(_) | ReadPlan::Hole => end_read(pool, by, plan, None),
-        ReadPlan::Pinned(item, _) => {
-            let copy = &mut buf[..512 * usize::from(item.sectors)];
-            if read_any(devices, &item, copy)? {
-                end_read(pool, by, plan, Some(copy))
-            } else {
-                end_read(pool, by, plan, None)
+        ReadPlan::Staged(_) | ReadPlan::Hole => end_read(pool, by, plan, None, &NOWHERE),
+        ReadPlan::Pinned(item, online) => {
+            let width = pool.shape().width;
+            let mut copy = vec![in alloc; 0; 512 * usize::from(item.sectors)]?;
+            match read_any(&mut rig.set, width, online, &item, &mut copy) {
+                Ok(places) => end_read(pool, by, plan, Some(copy.as_slice()), &places),
+                Err(ReadFault::Lost(places)) => end_read(pool, by, plan, None, &places),
+                Err(ReadFault::Memory) => Err(BayFault::Memory),
             }
         }
     }
 }
 
-/// Ends a read that was begun just now. Fails only for want of memory.
-fn end_read(pool: &mut Pool, by: u8, plan: ReadPlan, got: Option<&[u8]>) -> Result<(), BayFault>
+/// The places of a read that made no call.
+const NOWHERE: [u64; 12] = [u64::MAX; 12];
+
+/// Ends a read that was begun just now, with the places of its calls. Fails only for want of memory.
+fn end_read(
+    pool: &mut Pool,
+    by: u8,
+    plan: ReadPlan,
+    got: Option<&[u8]>,
+    places: &[u64; 12],
+) -> Result<(), BayFault>
     requires got { IsGotFor plan (option_copied got) }
     requires begun { AwaitsRead by plan pool.old }
     ensures ready { OnOk result (IsReady pool.new) }
-    ensures ended { OnOk result (EndsOpenRead by plan (option_copied got.entry) pool.old pool.new) }
+    ensures ended { OnOk result (EndsOpenRead by plan (option_copied got.entry) places.now pool.old pool.new) }
     ensures memory { OnErr result (result ≡ Err BayFault.Memory) }
     ensures err { OnErr result (pool.new ≡ pool.old) }
 {
-    pool.read_end(by, plan, got)?;
+    pool.read_end(by, plan, got, places)?;
     Ok(())
 }
 
-/// Runs a line. The buffers have the size of the greatest block.
-pub fn run_line<D: Device>(
+/// Runs a line.
+pub fn run_line<C: Children>(
     alloc: Global,
     pool: &mut Pool,
-    devices: &mut [D],
+    rig: &mut Rig<C>,
     line: &Line,
-    good: &mut [u8],
-    buf: &mut [u8],
 ) -> Result<(), BayFault>
     requires later { IsLater line.now.command }
     requires ready { IsReady pool.old }
-    requires devices { AreDevicesOf pool.old.core.shape (map D.size devices.old) }
-    requires good { length good.old ≡ 131072 }
-    requires buf { length buf.old ≡ 131072 }
+    requires devices { AreDevicesOf pool.old.core.shape (C.count rig.old.set) (C.device rig.old.set) }
     ensures ready { OnOk result (IsReady pool.new) }
-    ensures goes_on { OnOk result (Went pool.old pool.new (map D.told devices.old) (map D.told devices.new) (line.now.command ∷ [])) }
-    ensures stops { StopsIn pool.old.history pool.new.history (line.now.command ∷ []) result }
-    ensures calls { Calls (map D.size devices.old) (map D.size devices.new) (map D.faults devices.old) (map D.faults devices.new) result }
+    ensures goes_on { OnOk result (Went pool.old pool.new (journals (C.device rig.old.set)) (journals (C.device rig.new.set)) (line.now.command ∷ [])) }
+    ensures stops { StopsIn pool.old pool.new (journals (C.device rig.old.set)) (journals (C.device rig.new.set)) (line.now.command ∷ []) result }
+    ensures calls { Calls (C.count rig.old.set) (C.count rig.new.set) (C.device rig.old.set) (C.device rig.new.set) result }
 {
     let by = line.by;
     match &line.command {
@@ -108,16 +135,16 @@ pub fn run_line<D: Device>(
         | Command::Scrub
         | Command::Make { .. }
         | Command::Write { .. }
+        | Command::Errors
         | Command::Status => command(pool, line),
-        Command::Sync => end_sync(pool, devices, by),
+        Command::Sync => end_sync(pool, rig, by),
         Command::Walk { turns } => walk(alloc, pool, by, *turns),
         Command::Hold { vdev, pieces } => hold(alloc, pool, by, *vdev, *pieces),
-        Command::Issue { vdev, pieces } => {
-            issue(alloc, pool, devices, by, *vdev, *pieces, good, buf)
-        }
-        Command::Land => land(alloc, pool, devices, by, good, buf),
-        Command::Finish => finish(alloc, pool, devices, by, good, buf),
-        Command::Read { ds, object, leaf } => read(pool, devices, by, ds, *object, *leaf, buf),
+        Command::Issue { vdev, pieces } => { issue(alloc, pool, rig, by, *vdev, *pieces) }
+        Command::Land => land(alloc, pool, rig, by),
+        Command::Finish => finish(alloc, pool, rig, by),
+        Command::Read { ds, object, leaf } => read(alloc, pool, rig, by, ds, *object, *leaf),
+        Command::Rot { dev, sector, count } => rot(alloc, pool, rig, by, *dev, *sector, *count),
         _ => unreachable!(),
     }
 }
@@ -128,21 +155,21 @@ fn command(pool: &mut Pool, line: &Line) -> Result<(), BayFault>
     requires ready { IsReady pool.old }
     ensures ready { OnOk result (IsReady pool.new) }
     ensures goes_on { OnOk result (WentAlone pool.old pool.new (line.now.command ∷ [])) }
-    ensures stops { WantsMemory pool.old.history pool.new.history result }
+    ensures stops { WantsMemory pool.old pool.new result }
 {
     pool.command(line.by, &line.command)?;
     Ok(())
 }
 
 /// Commits what is staged, as a line.
-fn end_sync<D: Device>(pool: &mut Pool, devices: &mut [D], by: u8) -> Result<(), BayFault>
+fn end_sync<C: Children>(pool: &mut Pool, rig: &mut Rig<C>, by: u8) -> Result<(), BayFault>
     requires ready { IsReady pool.old }
-    requires devices { AreDevicesOf pool.old.core.shape (map D.size devices.old) }
+    requires devices { AreDevicesOf pool.old.core.shape (C.count rig.old.set) (C.device rig.old.set) }
     ensures ready { OnOk result (IsReady pool.new) }
-    ensures goes_on { OnOk result (Went pool.old pool.new (map D.told devices.old) (map D.told devices.new) (Command.Sync ∷ [])) }
-    ensures stops { StopsLine pool.old.history pool.new.history result }
-    ensures calls { Calls (map D.size devices.old) (map D.size devices.new) (map D.faults devices.old) (map D.faults devices.new) result }
+    ensures goes_on { OnOk result (Went pool.old pool.new (journals (C.device rig.old.set)) (journals (C.device rig.new.set)) (Command.Sync ∷ [])) }
+    ensures stops { StopsLine pool.old pool.new (journals (C.device rig.old.set)) (journals (C.device rig.new.set)) result }
+    ensures calls { Calls (C.count rig.old.set) (C.count rig.new.set) (C.device rig.old.set) (C.device rig.new.set) result }
 {
-    sync(pool, devices)?;
+    sync(pool, rig)?;
     end_line(pool, by, &Command::Sync, Reply::Nothing)
 }

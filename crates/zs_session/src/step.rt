@@ -4,7 +4,7 @@ ghost use Rattle.std.specs.Prelude.{◌≡◌, ◌≤◌, ◌<◌, ◌-◌, [], 
 ghost use Rattle.std.specs.List.{list_all};
 ghost use Rattle.zs_io.specs.Faults.{Rose};
 ghost use Rattle.zs_io.specs.Told.{Told};
-ghost use Rattle.zs_session.specs.Ending.{devices_in, CountsSink};
+ghost use Rattle.zs_session.specs.Ending.{CountsSink};
 ghost use Rattle.zs_session.specs.Puts.{PutsLast, fault_line};
 ghost use Rattle.zs_session.specs.Step.{is_image, are_images, is_step, names_in, read_of};
 ghost use Rattle.zs_session.specs.Runs.{EndsInUsage, EndsInFault, IsUntouched, HasAskedFor, EndsRefused, EndsUnmade, HandsBack, EndsInSession, RunsLines, PutsHistory, CountsDevices, CountsStreams};
@@ -13,7 +13,8 @@ use crate::end::End;
 use crate::images::fetch_images;
 use crate::session::{Ended, end_with, step_session};
 use std::alloc::{AllocError, Global};
-use zs_io::{Bay, BayFault, Sink, Source};
+use zs_io::{Bay, BayFault, Device, Sink, Source};
+use zs_lane::Lane;
 use zs_script::{ScriptFault, Why, parse};
 
 /// One more than the most bytes of a script.
@@ -129,23 +130,23 @@ fn fault_text(alloc: Global, line: u32, why: Why) -> Result<Vec<u8>, AllocError>
 }
 
 /// Puts a fault of a script.
-fn tell_fault<D: Drop, K: Sink>(
+fn tell_fault<D: Device + Drop, K: Sink>(
     alloc: Global,
     line: u32,
     why: Why,
-    devices: Vec<D>,
+    lanes: Vec<Lane<D>>,
     out: &mut K,
 ) -> Ended<D>
     ensures status { (result.status ≡ 2) ⊎ ((result.status ≡ 6) ⊎ (result.status ≡ 7)) }
     ensures session { result.session ≡ None }
-    ensures devices { result.devices.items ≡ devices.items }
+    ensures lanes { result.lanes.items ≡ lanes.items }
     ensures text { PutsLast (fault_line line why) result.status (K.told out.old) (K.told out.new) }
     ensures sink { CountsSink result.status (K.faults out.old) (K.faults out.new) }
 {
     let Ok(text) = fault_text(alloc, line, why) else {
-        return Ended::without(End::Memory, devices);
+        return Ended::without(End::Memory, lanes);
     };
-    end_with(End::Fault, text.as_slice(), devices, out)
+    end_with(End::Fault, text.as_slice(), lanes, out)
 }
 
 /// Runs the program on the words of its command line, which are `step` and the names of one to sixteen images, in
@@ -154,8 +155,8 @@ fn tell_fault<D: Drop, K: Sink>(
 ///
 /// The status is 0 where the script was read to its end and every reply was put; 1 where the words are others,
 /// and `usage` is put; 2 where the script has a fault, which is put; 3 where `pool` refused the images, which
-/// is put; 4 where a device or the bay failed; 5 where the source failed; 6 where the sink failed; 7 where
-/// memory was wanting.
+/// is put; 4 where a device failed in a sync's data, a head could not be read, or an image could not be had; 5 where
+/// the source failed; 6 where the sink failed; 7 where memory was wanting.
 pub fn run_step<B: Bay, S: Source, K: Sink>(
     alloc: Global,
     words: &[String],
@@ -173,26 +174,26 @@ pub fn run_step<B: Bay, S: Source, K: Sink>(
     ensures session { EndsInSession result }
     ensures lines { RunsLines (S.left src.old) result }
     ensures text { PutsHistory (K.told out.old) (K.told out.new) result }
-    ensures devices { CountsDevices result.status (B.faults bay.old) (B.faults bay.new) (map B.Dev.faults (devices_in result.session result.devices.items)) }
+    ensures devices { CountsDevices B.Dev.faults (B.faults bay.old) (B.faults bay.new) result }
     ensures streams { CountsStreams result.status (S.faults src.old) (S.faults src.new) (K.faults out.old) (K.faults out.new) }
 {
-    let mut devices = Vec::new(alloc);
+    let mut lanes = Vec::new(alloc);
     if !is_step(words) {
-        return end_with(End::Usage, b"usage\n", devices, out);
+        return end_with(End::Usage, b"usage\n", lanes, out);
     }
     let script = match read_script(alloc, src) {
         Ok(script) => script,
-        Err(ReadFault::Failed) => return Ended::without(End::Source, devices),
-        Err(ReadFault::Memory) => return Ended::without(End::Memory, devices),
+        Err(ReadFault::Failed) => return Ended::without(End::Source, lanes),
+        Err(ReadFault::Memory) => return Ended::without(End::Memory, lanes),
     };
     let lines = match parse(alloc, script.as_slice()) {
         Ok(lines) => lines,
-        Err(ScriptFault::Bad { line, why }) => return tell_fault(alloc, line, why, devices, out),
-        Err(ScriptFault::Memory) => return Ended::without(End::Memory, devices),
+        Err(ScriptFault::Bad { line, why }) => return tell_fault(alloc, line, why, lanes, out),
+        Err(ScriptFault::Memory) => return Ended::without(End::Memory, lanes),
     };
-    match fetch_images(&words[1..], bay, &mut devices) {
-        Ok(()) => step_session(alloc, lines.as_slice(), devices, out),
-        Err(BayFault::Failed) => Ended::without(End::Device, devices),
-        Err(BayFault::Memory) => Ended::without(End::Memory, devices),
+    match fetch_images(alloc, &words[1..], bay, &mut lanes) {
+        Ok(()) => step_session(alloc, lines.as_slice(), lanes, out),
+        Err(BayFault::Failed) => Ended::without(End::Device, lanes),
+        Err(BayFault::Memory) => Ended::without(End::Memory, lanes),
     }
 }

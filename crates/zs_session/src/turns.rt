@@ -3,7 +3,7 @@
 ghost use Rattle.std.specs.Prelude.{◌≡◌, ◌≢◌, ◌≤◌, ◌<◌, ◌∷◌, [], OnOk, OnErr, IfOk, Ok, Err};
 ghost use Rattle.zs_core.specs.Line.{IsWhy, waiting_counts};
 ghost use Rattle.zs_machine.specs.Told.{AreTurns, line_steps};
-ghost use Rattle.zs_session.specs.Session.{IsUp, IsReady, Passes, WantsMemory};
+ghost use Rattle.zs_session.specs.Session.{IsUp, IsReady, PassesAlone, WantsMemory};
 ghost use Rattle.zs_session.specs.Plays.{WentAlone};
 ghost use Rattle.zs_session.specs.Finish.{TurnsTo};
 ghost use Rattle.zs_session.specs.Turns.{CountsTurn, FindsTurn, LeavesFlight};
@@ -49,7 +49,7 @@ pub fn turn(pool: &mut Pool, by: u8) -> Result<Turned, BayFault>
     ensures finds { FindsTurn pool.old.core pool.new.core result }
     ensures phase { IfOk result (λ turned. TurnsTo turned pool.old.history pool.new.history) }
     ensures memory { OnErr result (result ≡ Err BayFault.Memory) }
-    ensures passes { Passes pool.old.history pool.new.history result }
+    ensures passes { PassesAlone pool.old pool.new result }
 {
     match pool.walk(by) {
         Ok(turn) => Ok(outcome_of(turn)),
@@ -67,7 +67,7 @@ fn make_turns(pool: &mut Pool, by: u8, most: u32) -> Result<(u32, WalkEnd), BayF
     ensures made { IfOk result (λ walked. AreTurns (line_steps pool.new.history) walked.0) }
     ensures few { IfOk result (λ walked. walked.0 ≤ most) }
     ensures why { IfOk result (λ walked. IsWhy pool.new.core most walked.0 walked.1) }
-    ensures stops { WantsMemory pool.old.history pool.new.history result }
+    ensures stops { WantsMemory pool.old pool.new result }
 {
     for made in 0..most {
         match turn(pool, by)? {
@@ -92,7 +92,7 @@ pub fn walk(alloc: Global, pool: &mut Pool, by: u8, turns: u32) -> Result<(), Ba
     requires ready { IsReady pool.old }
     ensures ready { OnOk result (IsReady pool.new) }
     ensures goes_on { OnOk result (WentAlone pool.old pool.new (Command.Walk turns ∷ [])) }
-    ensures stops { WantsMemory pool.old.history pool.new.history result }
+    ensures stops { WantsMemory pool.old pool.new result }
 {
     let (made, why) = make_turns(pool, by, turns)?;
     let Ok(waiting) = waiting_counts(alloc, pool.scan()) else {

@@ -1,5 +1,6 @@
 //! Runs of the program over sources, sinks and images that are made for the tests.
 
+mod damage;
 mod devices;
 mod failures;
 mod images;

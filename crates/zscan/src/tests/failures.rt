@@ -97,7 +97,7 @@ fn a_device_that_fails_in_a_sync_ends_the_run_behind_what_was_put(
 }
 
 #[test]
-fn a_device_that_fails_in_a_check_ends_the_run_behind_what_was_put(
+fn a_device_that_fails_in_a_check_makes_each_of_its_copies_an_error(
     rt: HostRuntime,
 ) -> Result<(), Fail> {
     let alloc = rt.alloc();
@@ -107,8 +107,9 @@ fn a_device_that_fails_in_a_check_ends_the_run_behind_what_was_put(
     let first = failing(alloc, 5)?;
     let second = failing(alloc, u64::MAX)?;
     let ran = run_over(alloc, script.as_str(), first, second)?;
-    let want = format!(in alloc; "{BASE_REPLIES}queued 4 1\nsync 4\ntask 1 ok\n")?;
+    let scrub = "queued 4 1\nsync 4\ntask 1 ok\nsync 5\nfinished scrub 3 3\n";
+    let want = format!(in alloc; "{BASE_REPLIES}{scrub}")?;
     assert_eq!(rt; ran.replies.as_slice(), want.as_bytes());
-    assert_eq!(rt; ran.status, 4);
+    assert_eq!(rt; ran.status, 0);
     Ok(())
 }

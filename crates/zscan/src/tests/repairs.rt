@@ -11,10 +11,11 @@ fn are_repaired(session: Option<Session<Shaky>>) -> bool {
     let Some(session) = session else {
         return false;
     };
-    let mut images = session.devices;
-    let (Some(second), Some(first)) = (images.pop(), images.pop()) else {
+    let mut lanes = session.lanes;
+    let (Some(second), Some(first)) = (lanes.pop(), lanes.pop()) else {
         return false;
     };
+    let (second, first) = (second.into_device(), first.into_device());
     first.writes() == 4 && second.writes() == 3 && first.into_bytes() == second.into_bytes()
 }
 

@@ -18,7 +18,7 @@ fn faulty(alloc: Global, script: &str) -> Result<(u8, Vec<u8>, bool), AllocError
     let mut bay = MemBay::new(Vec::from_array(alloc, [first, second])?);
     let mut sink = MemSink::new(alloc, Vec::new(alloc));
     let ended = run_step(alloc, words.as_slice(), &mut bay, &mut source, &mut sink);
-    let whole = ended.devices.len() == 0 && is_untouched(&mut bay) && is_untouched(&mut bay);
+    let whole = ended.lanes.len() == 0 && is_untouched(&mut bay) && is_untouched(&mut bay);
     let put = Vec::from_slice(alloc, sink.bytes())?;
     Ok((ended.status, put, whole))
 }

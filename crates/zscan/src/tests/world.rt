@@ -4,6 +4,7 @@ ghost use Rattle.std.specs.Prelude.{◌≡◌, ◌≤◌, IfOk};
 
 use std::alloc::{AllocError, Global};
 use zs_io::{Device, MemBay, MemDevice, MemSink, MemSource};
+use zs_lane::Lane;
 use zs_session::{Ended, Session, run_step};
 
 /// A pool with one record in its one head.
@@ -93,10 +94,10 @@ pub fn outcome_of(alloc: Global, ended: Ended<MemDevice>, put: &[u8]) -> Result<
     let Ended {
         status,
         session,
-        devices,
+        lanes,
     } = ended;
     let replies = Vec::from_slice(alloc, put)?;
-    let images = images_of(session, devices);
+    let images = images_of(alloc, session, lanes)?;
     Ok(Ran {
         status,
         replies,
@@ -105,9 +106,18 @@ pub fn outcome_of(alloc: Global, ended: Ended<MemDevice>, put: &[u8]) -> Result<
 }
 
 /// The images of a session, or else those that were fetched.
-fn images_of(session: Option<Session<MemDevice>>, fetched: Vec<MemDevice>) -> Vec<MemDevice> {
-    match session {
-        Some(session) => session.devices,
+fn images_of(
+    alloc: Global,
+    session: Option<Session<MemDevice>>,
+    fetched: Vec<Lane<MemDevice>>,
+) -> Result<Vec<MemDevice>, AllocError> {
+    let lanes = match session {
+        Some(session) => session.lanes,
         None => fetched,
+    };
+    let mut images = Vec::new(alloc);
+    for lane in lanes {
+        images.push(lane.into_device())?;
     }
+    Ok(images)
 }

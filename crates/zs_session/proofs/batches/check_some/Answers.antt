@@ -1,8 +1,10 @@
-use Rattle.std.proofs.Common.{◌≤◌, ap, ◌∙◌, refl, length, map, arith}
+use Rattle.zs_session.specs.Devices.{journals}
+use Rattle.std.proofs.Common.{◌≤◌, ap, ◌∙◌, refl, length, arith}
 use Rattle.zs_scan.specs.declared.batch.Batch.{Batch}
 use Rattle.zs_core.specs.View.{CoreView}
 use Rattle.zs_session.proofs.Draining.{few_held}
-use Rattle.zs_session.proofs.Histories.{passes_adds, passes_same, passes_twice, went_adds, went_twice}
+use Rattle.zs_session.proofs.Histories.{passes_event, passes_kept, passes_went, silent_adds, went_adds, went_after, went_twice, passes_still}
+use Rattle.zs_session.proofs.Sets.{longer_of, longer_none}
 use Rattle.zs_session.proofs.Judged.{flies, whole_of, waiting_stays}
 use Rattle.zs_session.proofs.LineSteps.{was_issued}
 use Rattle.zs_session.proofs.Taking.{took_all, took_still, as_many_shown}
@@ -15,16 +17,20 @@ judge-requires-clause-flies g c =
 
 pub returns-in_err-judge-clause-passes : goal.returns-in_err-judge-clause-passes
 returns-in_err-judge-clause-passes g c =
-    passes_same _ _ _ _ c.in_err-judge.ensures.err (passes_adds _ _ _ _ _ refl c.in_ok-batch.ensures.event)
+    passes_kept _ _ _ _ _ _ _ _ refl c.in_ok-batch.ensures.event (ap (λ (v : CoreView). v.shape) c.in_ok-batch.ensures.core) refl c.in_err-judge.ensures.err (longer_of _ _ _ _ c.judge.ensures.calls.set)
 
 pub returns-then-len-eq0-clause-passes : goal.returns-then-len-eq0-clause-passes
-returns-then-len-eq0-clause-passes g c = passes_adds _ _ _ _ _ refl c.in_ok-batch.ensures.event
+returns-then-len-eq0-clause-passes g c = passes_event _ _ _ _ _ _ _ refl c.in_ok-batch.ensures.event (ap (λ (v : CoreView). v.shape) c.in_ok-batch.ensures.core) refl (longer_none _)
 
 pub returns-in_err-issued_last-clause-passes : goal.returns-in_err-issued_last-clause-passes
-returns-in_err-issued_last-clause-passes g c = passes_twice _ _ _ _ _ _ refl c.in_ok-batch.ensures.event (passes_adds _ _ _ _ _ refl c.in_ok-judge.ensures.verdict.event)
+returns-in_err-issued_last-clause-passes g c =
+    passes_went _ _ _ _ _ (silent_adds _ _ _ _ c.in_ok-judge.ensures.verdict.event ∙ silent_adds _ _ _ _ c.in_ok-batch.ensures.event)
+    (went_after _ _ _ _ _ _ _ (went_adds _ _ _ _ _ c.in_ok-batch.ensures.event (ap (λ (v : CoreView). v.shape) c.in_ok-batch.ensures.core) (λ same. refl) (journals (g.C.Children.device c.args.rig.now.set))) c.in_ok-judge.ensures.goes_on)
 
 pub returns-clause-passes : goal.returns-clause-passes
-returns-clause-passes g c = passes_twice _ _ _ _ _ _ refl c.in_ok-batch.ensures.event (passes_adds _ _ _ _ _ refl c.in_ok-judge.ensures.verdict.event)
+returns-clause-passes g c =
+    passes_went _ _ _ _ _ (silent_adds _ _ _ _ c.in_ok-judge.ensures.verdict.event ∙ silent_adds _ _ _ _ c.in_ok-batch.ensures.event)
+    (went_after _ _ _ _ _ _ _ (went_adds _ _ _ _ _ c.in_ok-batch.ensures.event (ap (λ (v : CoreView). v.shape) c.in_ok-batch.ensures.core) (λ same. refl) (journals (g.C.Children.device c.args.rig.now.set))) c.in_ok-judge.ensures.goes_on)
 
 pub returns-clause-told : goal.returns-clause-told
 returns-clause-told g c =
@@ -45,4 +51,7 @@ returns-clause-all g c =
 
 pub returns-clause-goes_on : goal.returns-clause-goes_on
 returns-clause-goes_on g c =
-    went_twice _ _ _ _ _ _ _ _ (went_adds _ _ _ _ _ c.in_ok-batch.ensures.event (ap (λ (v : CoreView). v.shape) c.in_ok-batch.ensures.core) (λ same. refl) (map g.D.Device.told c.args.devices.now)) c.in_ok-judge.ensures.goes_on
+    went_twice _ _ _ _ _ _ _ _ (went_adds _ _ _ _ _ c.in_ok-batch.ensures.event (ap (λ (v : CoreView). v.shape) c.in_ok-batch.ensures.core) (λ same. refl) (journals (g.C.Children.device c.args.rig.now.set))) c.in_ok-judge.ensures.goes_on
+
+pub returns-in_err-batch-clause-passes : goal.returns-in_err-batch-clause-passes
+returns-in_err-batch-clause-passes g c = passes_still _ _ _ _ _ c.in_err-batch.ensures.err.0 (ap (λ (v : CoreView). v.shape) c.hold.ensures.core) (longer_none _)

@@ -1,11 +1,13 @@
-use Rattle.std.proofs.Common.{◌≡◌, ◌≤◌, ◌<◌, ◌∙◌, ap, subst, sym, length, map, refl, arith}
+use Rattle.zs_session.specs.Devices.{journals}
+use Rattle.std.proofs.Common.{◌≡◌, ◌≤◌, ◌<◌, ◌∙◌, ap, subst, sym, length, refl, arith}
 use Rattle.std.proofs.lemmas.List.{length-map}
 use Rattle.zs_ids.specs.declared.block.Item.{Item}
 use Rattle.zs_scan.specs.declared.batch.Batch.{Batch}
 use Rattle.zs_scan.specs.View.{ScanView}
 use Rattle.zs_core.specs.View.{CoreView}
 use Rattle.zs_session.proofs.Draining.{none_left, fewer_wait}
-use Rattle.zs_session.proofs.Histories.{passes_adds, passes_same, passes_twice, went_after, went_one}
+use Rattle.zs_session.proofs.Histories.{passes_event, passes_kept, passes_went, silent_adds, went_after, went_one, passes_still}
+use Rattle.zs_session.proofs.Sets.{longer_of, longer_none}
 use Rattle.zs_session.proofs.Judged.{flies, waiting_stays}
 use Rattle.zs_session.proofs.Phases.{held_none, held_some}
 use Rattle.zs_session.proofs.finishing.check_next.Goals as goal
@@ -21,7 +23,7 @@ returns-then-len-eq0-clause-phase g c over may =
     held_none _ _ _ _ _ _ _ c.in_ok-batch.ensures.event (length-map c.in_ok-batch.batch.items (λ (i : Item). i.piece) ∙ none) over may
 
 pub returns-then-len-eq0-clause-passes : goal.returns-then-len-eq0-clause-passes
-returns-then-len-eq0-clause-passes g c = passes_adds _ _ _ _ _ refl c.in_ok-batch.ensures.event
+returns-then-len-eq0-clause-passes g c = passes_event _ _ _ _ _ _ _ refl c.in_ok-batch.ensures.event (ap (λ (v : CoreView). v.shape) c.hold.ensures.core) refl (longer_none _)
 
 pub judge-requires-clause-flies : goal.judge-requires-clause-flies
 judge-requires-clause-flies g c =
@@ -30,7 +32,7 @@ judge-requires-clause-flies g c =
 
 pub returns-in_err-judge-clause-passes : goal.returns-in_err-judge-clause-passes
 returns-in_err-judge-clause-passes g c =
-    passes_same _ _ _ _ c.in_err-judge.ensures.err (passes_adds _ _ _ _ _ refl c.in_ok-batch.ensures.event)
+    passes_kept _ _ _ _ _ _ _ _ refl c.in_ok-batch.ensures.event (ap (λ (v : CoreView). v.shape) c.hold.ensures.core) refl c.in_err-judge.ensures.err (longer_of _ _ _ _ c.judge.ensures.calls.set)
 
 pub returns-clause-fewer : goal.returns-clause-fewer
 returns-clause-fewer g c is =
@@ -46,7 +48,12 @@ returns-clause-phase g c over may =
 
 pub returns-clause-goes_on : goal.returns-clause-goes_on
 returns-clause-goes_on g c =
-    went_after _ _ _ _ _ _ _ (went_one _ _ _ _ c.hold.new.self (map g.D.Device.told c.args.devices.now) _ c.in_ok-batch.ensures.event (ap (λ (v : CoreView). v.shape) c.hold.ensures.core) refl) c.in_ok-judge.ensures.goes_on
+    went_after _ _ _ _ _ _ _ (went_one _ _ _ _ c.hold.new.self (journals (g.C.Children.device c.args.rig.now.set)) _ c.in_ok-batch.ensures.event (ap (λ (v : CoreView). v.shape) c.hold.ensures.core) refl) c.in_ok-judge.ensures.goes_on
 
 pub returns-clause-passes : goal.returns-clause-passes
-returns-clause-passes g c = passes_twice _ _ _ _ _ _ refl c.in_ok-batch.ensures.event (passes_adds _ _ _ _ _ refl c.in_ok-judge.ensures.verdict.event)
+returns-clause-passes g c =
+    passes_went _ _ _ _ _ (silent_adds _ _ _ _ c.in_ok-judge.ensures.verdict.event ∙ silent_adds _ _ _ _ c.in_ok-batch.ensures.event)
+    (went_after _ _ _ _ _ _ _ (went_one _ _ _ _ c.hold.new.self (journals (g.C.Children.device c.args.rig.now.set)) _ c.in_ok-batch.ensures.event (ap (λ (v : CoreView). v.shape) c.hold.ensures.core) refl) c.in_ok-judge.ensures.goes_on)
+
+pub returns-in_err-batch-clause-passes : goal.returns-in_err-batch-clause-passes
+returns-in_err-batch-clause-passes g c = passes_still _ _ _ _ _ c.in_err-batch.ensures.err.0 (ap (λ (v : CoreView). v.shape) c.hold.ensures.core) (longer_none _)

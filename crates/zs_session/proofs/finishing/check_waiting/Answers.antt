@@ -1,13 +1,13 @@
-use Rattle.std.proofs.Common.{◌∙◌, ap}
+use Rattle.std.proofs.Common.{◌∙◌, ap, rules}
 use Rattle.zs_session.specs.Finish.{checked_to}
-use Rattle.zs_session.proofs.Devices.{calls_on}
+use Rattle.zs_session.proofs.Sets.{set_twice, calls_stop, calls_ok}
 use Rattle.zs_session.proofs.Histories.{passes_after, went_after}
 use Rattle.zs_session.proofs.Phases.{holds_on}
 use Rattle.zs_session.proofs.Walking.{still_twice}
 use Rattle.zs_session.proofs.finishing.check_waiting.Goals as goal
 
 pub returns-in_err-check_next-clause-passes : goal.returns-in_err-check_next-clause-passes
-returns-in_err-check_next-clause-passes g c = passes_after _ _ _ _ _ _ c.loop.invariant.goes_on c.loop.invariant.silent c.in_err-check_next.ensures.passes
+returns-in_err-check_next-clause-passes g c = passes_after _ _ _ _ _ _ _ c.loop.invariant.goes_on c.loop.invariant.silent c.in_err-check_next.ensures.passes
 
 pub loop-preserved : goal.loop-preserved
 loop-preserved g c = record {
@@ -16,7 +16,7 @@ loop-preserved g c = record {
   silent = c.check_next.ensures.passes.silent ∙ c.loop.invariant.silent;
   still = still_twice _ _ _ c.loop.invariant.still c.in_ok-check_next.ensures.still;
   phase = λ over may. holds_on _ over (c.in_ok-check_next.ensures.phase over (c.loop.invariant.phase over may) ∙ ap (checked_to over) c.if-branch.true);
-  calls = calls_on c.loop.invariant.calls c.in_ok-check_next.ensures.calls;
+  calls = set_twice _ _ _ _ _ _ c.loop.invariant.calls c.in_ok-check_next.ensures.calls.set;
 }
 
 pub returns-clause-phase : goal.returns-clause-phase
@@ -24,3 +24,9 @@ returns-clause-phase g c over may = c.in_ok-check_next.ensures.phase over (c.loo
 
 pub returns-clause-goes_on : goal.returns-clause-goes_on
 returns-clause-goes_on g c = went_after _ _ _ _ _ _ _ c.loop.invariant.goes_on c.in_ok-check_next.ensures.goes_on
+
+pub returns-in_err-check_next-clause-calls : goal.returns-in_err-check_next-clause-calls
+returns-in_err-check_next-clause-calls g c = calls_stop _ _ _ _ _ _ _ _ (search rules) c.loop.invariant.calls c.in_err-check_next.ensures.calls
+
+pub returns-clause-calls : goal.returns-clause-calls
+returns-clause-calls g c = calls_ok _ _ _ _ _ (set_twice _ _ _ _ _ _ c.loop.invariant.calls c.in_ok-check_next.ensures.calls.set)

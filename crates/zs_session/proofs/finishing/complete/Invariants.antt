@@ -1,21 +1,21 @@
-use Rattle.std.proofs.Common.{Ok, ◌≡◌, [], map}
+use Rattle.std.proofs.Common.{◌≡◌, []}
 use Rattle.zs_phys.specs.Turn.{IsWalking}
 use Rattle.zs_machine.specs.History.{text_of}
 use Rattle.zs_session.specs.Session.{IsUp}
 use Rattle.zs_session.specs.Plays.{Went}
 use Rattle.zs_session.specs.Finish.{MayWalk, phase_at, finish_left}
-use Rattle.zs_session.specs.Mirror.{Calls}
+use Rattle.zs_session.specs.Devices.{SetGoesOn, journals}
 use Rattle.zs_session.proofs.finishing.complete.Given as goal
 
 abbrev pub invariant-loop : goal.invariant-loop
 invariant-loop g l = record {
   up : IsUp l.pool;
-  goes_on : Went l.initial.pool l.pool (map g.D.Device.told l.initial.devices) (map g.D.Device.told l.devices) [];
+  goes_on : Went l.initial.pool l.pool (journals (g.C.Children.device l.initial.rig.set)) (journals (g.C.Children.device l.rig.set)) [];
   silent : text_of l.pool.history ≡ text_of l.initial.pool.history;
   runs : IsWalking l.pool.core.scan.run;
   landed : l.pool.core.scan.flight ≡ [];
   phase : MayWalk (phase_at l.pool.history);
-  calls : Calls {T = Unit {0}} (map g.D.Device.size l.initial.devices) (map g.D.Device.size l.devices) (map g.D.Device.faults l.initial.devices) (map g.D.Device.faults l.devices) (Ok tt);
+  calls : SetGoesOn (g.C.Children.count l.initial.rig.set) (g.C.Children.count l.rig.set) (g.C.Children.device l.initial.rig.set) (g.C.Children.device l.rig.set);
 }
 
 abbrev pub decreases-loop : goal.decreases-loop

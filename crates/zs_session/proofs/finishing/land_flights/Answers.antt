@@ -1,12 +1,12 @@
-use Rattle.std.proofs.Common.{◌≡◌, ℕ, true, sym, ◌∙◌}
+use Rattle.std.proofs.Common.{◌≡◌, ℕ, true, sym, ◌∙◌, rules}
 use Rattle.std.specs.Prelude.{Option, Some, None, IfSome, is_some}
 use Rattle.zs_core.specs.View.{PoolView}
 use Rattle.zs_machine.specs.History.{text_of}
 use Rattle.zs_machine.specs.Finishing.Phase.{landing}
 use Rattle.zs_session.specs.Batches.{LandsFirst}
 use Rattle.zs_session.specs.Finish.{phase_at}
-use Rattle.zs_session.proofs.Devices.{calls_on}
-use Rattle.zs_session.proofs.Histories.{silent_adds, went_after}
+use Rattle.zs_session.proofs.Sets.{set_twice, calls_stop, longer_of, calls_ok}
+use Rattle.zs_session.proofs.Histories.{silent_adds, went_after, passes_of, halts_after, halts_same}
 use Rattle.zs_session.proofs.Phases.{lands}
 use Rattle.zs_session.proofs.Walking.{still_walking}
 use Rattle.zs_session.proofs.finishing.land_flights.Goals as goal
@@ -26,8 +26,19 @@ loop-preserved g c =
       silent = both.1 ∙ c.loop.invariant.silent;
       runs = λ was. still_walking _ _ c.in_ok-land_next.ensures.scan (c.loop.invariant.runs was);
       phase = both.0;
-      calls = calls_on c.loop.invariant.calls c.in_ok-land_next.ensures.calls;
+      calls = set_twice _ _ _ _ _ _ c.loop.invariant.calls c.in_ok-land_next.ensures.calls.set;
     }
 
 pub returns-clause-goes_on : goal.returns-clause-goes_on
 returns-clause-goes_on g c = went_after _ _ _ _ _ _ _ c.loop.invariant.goes_on c.in_ok-land_next.ensures.goes_on
+
+pub returns-in_err-land_next-clause-passes : goal.returns-in_err-land_next-clause-passes
+returns-in_err-land_next-clause-passes g c =
+    passes_of _ _ _ _ _ (c.land_next.ensures.silent ∙ c.loop.invariant.silent)
+    (halts_after _ _ _ _ _ _ _ c.loop.invariant.goes_on (halts_same _ _ _ _ c.in_err-land_next.ensures.err (longer_of _ _ _ _ c.land_next.ensures.calls.set)))
+
+pub returns-in_err-land_next-clause-calls : goal.returns-in_err-land_next-clause-calls
+returns-in_err-land_next-clause-calls g c = calls_stop _ _ _ _ _ _ _ _ (search rules) c.loop.invariant.calls c.in_err-land_next.ensures.calls
+
+pub returns-clause-calls : goal.returns-clause-calls
+returns-clause-calls g c = calls_ok _ _ _ _ _ (set_twice _ _ _ _ _ _ c.loop.invariant.calls c.in_ok-land_next.ensures.calls.set)

@@ -1,12 +1,12 @@
-use Rattle.std.proofs.Common.{Ok, ◌≡◌, ℕ, ◌<◌, true, map, slice_index}
+use Rattle.std.proofs.Common.{◌≡◌, ℕ, ◌<◌, true, length, slice_index}
 use Rattle.zs_io.specs.Told.{Told}
-use Rattle.zs_session.specs.Mirror.{Calls, told_at}
-use Rattle.zs_session.specs.Images.{is_zero, head_of}
+use Rattle.zs_session.specs.Images.{ReadsFirst, told_at, is_zero, head_of, of_each}
 use Rattle.zs_session.proofs.images.are_blank_by.Given as goal
 
-abbrev pub invariant-loop-i : goal.invariant-loop-i
-invariant-loop-i g l = record {
-  told : map g.D.Device.told l.devices ≡ map g.D.Device.told l.initial.devices;
-  calls : Calls {T = Unit {0}} (map g.D.Device.size l.initial.devices) (map g.D.Device.size l.devices) (map g.D.Device.faults l.initial.devices) (map g.D.Device.faults l.devices) (Ok tt);
-  blank : (k : ℕ) → k < l.i → Told (told_at (map g.D.Device.told l.initial.devices) k) (λ bytes. is_zero (head_of (slice_index (map g.D.Device.size l.initial.devices) k) bytes) ≡ true);
+abbrev pub invariant-loop-dev : goal.invariant-loop-dev
+invariant-loop-dev g l = record {
+  count : length l.lanes.items ≡ l.width;
+  reads : ReadsFirst g.D.Device l.dev l.initial.lanes.items l.lanes.items;
+  blank : (k : ℕ) → k < l.dev → Told (told_at (of_each g.D.Device.told l.initial.lanes.items) k)
+      (λ bytes. is_zero (head_of (slice_index (of_each g.D.Device.size l.initial.lanes.items) k) bytes) ≡ true);
 }

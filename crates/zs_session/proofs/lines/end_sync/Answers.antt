@@ -1,4 +1,5 @@
-use Rattle.std.proofs.Common.{map, ◌∙◌, ◌++◌, List, ap, subst, sym}
+use Rattle.zs_session.specs.Devices.{journals}
+use Rattle.std.proofs.Common.{◌∙◌, ◌++◌, List, ap, subst, sym}
 use Rattle.zs_machine.specs.declared.event.Step.{Step}
 use Rattle.zs_machine.specs.Told.{TellsSync}
 use Rattle.zs_session.proofs.Histories.{line_after, went_twice}
@@ -17,7 +18,7 @@ end_line-requires-clause-reply g c =
 
 pub returns-clause-goes_on : goal.returns-clause-goes_on
 returns-clause-goes_on g c =
-    where_ok c.end_line.result (λ alone. went_twice _ _ _ _ _ _ _ _ c.in_ok-sync.ensures.goes_on (alone (map g.D.Device.told c.sync.new.devices))) c.end_line.ensures.goes_on
+    where_ok c.end_line.result (λ alone. went_twice _ _ _ _ _ _ _ _ c.in_ok-sync.ensures.goes_on (alone (journals (g.C.Children.device c.sync.new.rig.set)))) c.end_line.ensures.goes_on
 
 pub returns-clause-stops : goal.returns-clause-stops
 returns-clause-stops g c = line_after _ _ _ _ _ _ c.in_ok-sync.ensures.goes_on c.end_line.ensures.stops

@@ -1,9 +1,9 @@
-use Rattle.std.proofs.Common.{◌≡◌, true, ℕ, ◌-◌, ◌++◌, List, length, option_map, ap, refl, subst, ◌∙◌, arith}
+use Rattle.std.proofs.Common.{rules, ◌≡◌, ◌<◌, true, ℕ, ◌-◌, ◌++◌, List, length, option_map, ap, refl, subst, ◌∙◌, arith}
 use Rattle.std.proofs.lemmas.Grind.{common_steps}
 use Rattle.zs_session.specs.Images.{AsksFirst}
 use Rattle.zs_session.specs.Step.{is_step}
 use Rattle.zs_session.proofs.Fetching.{behind_first}
-use Rattle.zs_session.proofs.Endings.{ends_otherwise, no_fault, some_fault, may_touch, refuses_none, refuses_not, refuses, runs_lines, hands_back}
+use Rattle.zs_session.proofs.Endings.{ends_otherwise, no_fault, some_fault, may_touch, refuses_none, refuses_not, refuses, runs_lines, hands_back, hands_none, counts_some, counts_none, unmade_some, read_none, asks_some}
 use Rattle.zs_session.proofs.step.run_step.Goals as goal
 
 pub returns-in-Err-Bad-clause-fault : goal.returns-in-Err-Bad-clause-fault
@@ -33,10 +33,15 @@ returns-in-Ok-fetch_images-clause-lines g c =
 
 pub returns-in-Ok-fetch_images-clause-images : goal.returns-in-Ok-fetch_images-clause-images
 returns-in-Ok-fetch_images-clause-images g c =
-    let count : length c.fetch_images.new.devices.items ≡ length c.args.words.now - 1 = grind (arith, common_steps, c.in-Ok-fetch_images.ensures.count) in
-    hands_back (g.S.Source.left c.args.src.now) g.B.Dev.Device.size g.B.Dev.Device.told (length c.args.words.now - 1) (g.B.Bay.left c.args.bay.now) (g.B.Bay.left c.fetch_images.new.bay) c.fetch_images.new.devices.items c.as_slice.result.now c.in-Ok-parse.lines.items _ c.step_session.result
-    (λ script told. c.as_slice.ensures.value ∙ c.in-Ok.ensures.script script told) c.in-Ok-parse.ensures.exact c.as_slice-in-Ok-fetch_images.ensures.value c.step_session.ensures.images.fit
-    c.in-Ok-fetch_images.ensures.left count c.step_session.ensures.images.kept c.step_session.ensures.refused.none c.step_session.ensures.images.played
+    let count : length c.fetch_images.new.lanes.items ≡ length c.args.words.now - 1 = grind (arith, common_steps, c.in-Ok-fetch_images.ensures.count) in
+    hands_back (g.S.Source.left c.args.src.now) g.B.Dev.Device.size g.B.Dev.Device.told g.B.Dev.Device.faults (length c.args.words.now - 1) (g.B.Bay.left c.args.bay.now)
+    (g.B.Bay.left c.fetch_images.new.bay) c.fetch_images.new.lanes.items c.as_slice.result.now c.in-Ok-parse.lines.items _ c.step_session.result
+    (λ script told. c.as_slice.ensures.value ∙ c.in-Ok.ensures.script script told) c.in-Ok-parse.ensures.exact c.as_slice-in-Ok-fetch_images.ensures.value
+    c.in-Ok-fetch_images.ensures.left c.fetch_images.ensures.first c.fetch_images.ensures.new count c.step_session.ensures.images c.step_session.ensures.refused.none
+
+pub returns-in-Ok-fetch_images-clause-devices : goal.returns-in-Ok-fetch_images-clause-devices
+returns-in-Ok-fetch_images-clause-devices g c =
+    counts_some g.B.Dev.Device.faults (g.B.Bay.faults c.args.bay.now) (g.B.Bay.faults c.fetch_images.new.bay) c.step_session.result c.step_session.ensures.devices c.in-Ok-fetch_images.ensures.cause.ok
 
 pub returns-in-Ok-fetch_images-clause-asked : goal.returns-in-Ok-fetch_images-clause-asked
 returns-in-Ok-fetch_images-clause-asked g c =
@@ -93,3 +98,42 @@ returns-in-Err-Memory-clause-refused g c =
 pub returns-in-Err-Memory-parse-clause-refused : goal.returns-in-Err-Memory-parse-clause-refused
 returns-in-Err-Memory-parse-clause-refused g c =
     refuses_none (is_step c.args.words.now) (g.S.Source.left c.args.src.now) g.B.Dev.Device.size g.B.Dev.Device.told (g.K.Sink.told c.args.out.now) (g.K.Sink.told c.args.out.now) c.without-in-Err-Memory-parse.result (λ three. omega (arith, three, c.without-in-Err-Memory-parse.ensures.status)) refl
+
+pub returns-in-Ok-fetch_images-clause-unmade : goal.returns-in-Ok-fetch_images-clause-unmade
+returns-in-Ok-fetch_images-clause-unmade g c =
+    let count : length c.fetch_images.new.lanes.items ≡ length c.args.words.now - 1 = grind (arith, common_steps, c.in-Ok-fetch_images.ensures.count) in
+    unmade_some g.B.Dev.Device.size g.B.Dev.Device.told g.B.Dev.Device.faults (length c.args.words.now - 1) (g.B.Bay.faults c.args.bay.now) (g.B.Bay.faults c.fetch_images.new.bay) (g.K.Sink.told c.args.out.now) (g.K.Sink.told c.step_session.new.out)
+    c.fetch_images.new.lanes.items _ c.step_session.result count c.step_session.ensures.images c.step_session.ensures.refused
+
+pub returns-in-Err-Failed-fetch_images-clause-asked : goal.returns-in-Err-Failed-fetch_images-clause-asked
+returns-in-Err-Failed-fetch_images-clause-asked g c =
+    let few : length c.fetch_images.new.lanes.items < length c.args.words.now - 1 = grind (arith, common_steps, c.in-Err-Failed-fetch_images.ensures.fewer) in
+    asks_some _ (length c.args.words.now - 1) (g.B.Bay.asked c.args.bay.now) (g.B.Bay.asked c.fetch_images.new.bay) c.fetch_images.new.lanes.items c.without-in-Err-Failed-fetch_images.result
+    (λ three. omega (arith, three, c.without-in-Err-Failed-fetch_images.ensures.status)) c.without-in-Err-Failed-fetch_images.ensures.session c.without-in-Err-Failed-fetch_images.ensures.lanes few
+    (subst (λ (names : List (List ℕ)). AsksFirst names (g.B.Bay.asked c.args.bay.now) (g.B.Bay.asked c.fetch_images.new.bay)) (behind_first c.args.words.now) c.in-Err-Failed-fetch_images.ensures.asked_cut)
+
+pub returns-in-Err-Failed-fetch_images-clause-images : goal.returns-in-Err-Failed-fetch_images-clause-images
+returns-in-Err-Failed-fetch_images-clause-images g c =
+    let few : length c.fetch_images.new.lanes.items < length c.args.words.now - 1 = grind (arith, common_steps, c.in-Err-Failed-fetch_images.ensures.fewer) in
+    hands_none (g.S.Source.left c.args.src.now) g.B.Dev.Device.size g.B.Dev.Device.told g.B.Dev.Device.faults (length c.args.words.now - 1) (g.B.Bay.left c.args.bay.now) c.fetch_images.new.lanes.items c.without-in-Err-Failed-fetch_images.result
+    c.without-in-Err-Failed-fetch_images.ensures.session c.without-in-Err-Failed-fetch_images.ensures.lanes (λ three. omega (arith, three, c.without-in-Err-Failed-fetch_images.ensures.status))
+    (read_none (length c.args.words.now - 1) c.fetch_images.new.lanes.items c.without-in-Err-Failed-fetch_images.result c.without-in-Err-Failed-fetch_images.ensures.lanes few)
+    c.in-Err-Failed-fetch_images.ensures.first c.in-Err-Failed-fetch_images.ensures.new
+
+pub returns-in-Err-Failed-fetch_images-clause-devices : goal.returns-in-Err-Failed-fetch_images-clause-devices
+returns-in-Err-Failed-fetch_images-clause-devices g c =
+    counts_none g.B.Dev.Device.faults (g.B.Bay.faults c.args.bay.now) (g.B.Bay.faults c.fetch_images.new.bay) c.fetch_images.new.lanes.items c.without-in-Err-Failed-fetch_images.result
+    c.without-in-Err-Failed-fetch_images.ensures.session c.without-in-Err-Failed-fetch_images.ensures.lanes c.in-Err-Failed-fetch_images.ensures.new
+    (λ four. search rules) (λ other. absurd (other c.without-in-Err-Failed-fetch_images.ensures.status))
+
+pub returns-clause-images : goal.returns-clause-images
+returns-clause-images g c =
+    hands_none (g.S.Source.left c.args.src.now) g.B.Dev.Device.size g.B.Dev.Device.told g.B.Dev.Device.faults (length c.args.words.now - 1) (g.B.Bay.left c.args.bay.now) c.fetch_images.new.lanes.items c.without-in-Err-Memory-fetch_images.result
+    c.without-in-Err-Memory-fetch_images.ensures.session c.without-in-Err-Memory-fetch_images.ensures.lanes (λ three. omega (arith, three, c.without-in-Err-Memory-fetch_images.ensures.status))
+    (λ stops. omega (arith, stops.0, c.without-in-Err-Memory-fetch_images.ensures.status)) c.fetch_images.ensures.first c.fetch_images.ensures.new
+
+pub returns-clause-devices : goal.returns-clause-devices
+returns-clause-devices g c =
+    counts_none g.B.Dev.Device.faults (g.B.Bay.faults c.args.bay.now) (g.B.Bay.faults c.fetch_images.new.bay) c.fetch_images.new.lanes.items c.without-in-Err-Memory-fetch_images.result
+    c.without-in-Err-Memory-fetch_images.ensures.session c.without-in-Err-Memory-fetch_images.ensures.lanes c.fetch_images.ensures.new
+    (λ four. omega (arith, four, c.without-in-Err-Memory-fetch_images.ensures.status)) (λ other. search rules)

@@ -1,11 +1,11 @@
-use Rattle.std.proofs.Common.{◌∙◌, ap, Ok, rules}
-use Rattle.zs_session.proofs.Histories.{alone_after, goes_after, handed}
+use Rattle.std.proofs.Common.{[], ◌∙◌, ap, Ok, rules}
+use Rattle.zs_session.proofs.Histories.{alone_after, halts_after, handed}
 use Rattle.zs_session.proofs.turns.make_turns.Goals as goal
 
 pub returns-in_err-turn-clause-stops : goal.returns-in_err-turn-clause-stops
 returns-in_err-turn-clause-stops c = record {
   memory = search rules;
-  went_on = handed _ (goes_after _ _ _ _ c.loop-made.invariant.goes_on c.in_err-turn.ensures.passes.went_on);
+  went_on = λ js. handed _ (halts_after _ _ _ js js js [] (c.loop-made.invariant.goes_on js) (c.in_err-turn.ensures.passes js).went_on);
 }
 
 pub returns-in-Nothing-clause-goes_on : goal.returns-in-Nothing-clause-goes_on

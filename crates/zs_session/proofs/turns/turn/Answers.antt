@@ -1,5 +1,7 @@
-use Rattle.std.proofs.Common.{refl}
-use Rattle.zs_session.proofs.Histories.{passes_adds}
+use Rattle.std.proofs.Common.{refl, ap}
+use Rattle.zs_session.proofs.Histories.{passes_event, passes_same}
+use Rattle.zs_core.specs.View.{CoreView}
+use Rattle.zs_session.proofs.Sets.{longer_none}
 use Rattle.zs_session.proofs.LineSteps.{one_more, none_more}
 use Rattle.zs_session.proofs.turns.turn.Goals as goal
 
@@ -10,4 +12,7 @@ returns-in-Ok-clause-counts c = record {
 }
 
 pub returns-in-Ok-clause-passes : goal.returns-in-Ok-clause-passes
-returns-in-Ok-clause-passes c = passes_adds _ _ _ _ _ refl c.in-Ok.ensures.event
+returns-in-Ok-clause-passes c js = passes_event _ _ _ _ js js _ refl c.in-Ok.ensures.event (ap (λ (v : CoreView). v.shape) c.walk.ensures.core) refl (longer_none js)
+
+pub returns-in-Err-Memory-clause-passes : goal.returns-in-Err-Memory-clause-passes
+returns-in-Err-Memory-clause-passes c js = passes_same _ _ _ js js c.in-Err-Memory.ensures.err (longer_none js)

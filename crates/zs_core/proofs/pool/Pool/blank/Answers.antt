@@ -4,7 +4,7 @@ use Rattle.zs_scan.specs.View.{ScanView}
 use Rattle.zs_core.specs.FlightTold.{flying_of}
 use Rattle.zs_machine.specs.Flight.{in_flight}
 use Rattle.zs_core.specs.Calls.{events_due}
-use Rattle.std.proofs.Common.{◌+◌, ◌≤◌, vec_len, vec_capacity, ◌≡◌, ◌∙◌, ap, refl, [], ◌*◌, arith}
+use Rattle.std.proofs.Common.{◌+◌, ◌≤◌, vec_len, vec_capacity, ◌≡◌, ◌∙◌, ap, refl, [], ◌*◌, ◌∷◌, arith}
 use Rattle.zs_script.specs.declared.command.Command.TheVariants.{Pool}
 use Rattle.zs_script.specs.declared.reply.Reply.TheVariants as reply
 use Rattle.zs_machine.specs.declared.event.Step.TheVariants as step
@@ -23,19 +23,23 @@ room c =
     let none = c.new-history.ensures.len in
     omega arith
 
+-- the history has just the event of the pool's making
+is : (c : goal.After-note) → c.note.new.history.items ≡ record { by = 0; step = step.Made (Pool c.args.shape.pool c.args.shape.width c.args.shape.limit c.args.shape.every c.args.shape.blocks); reply = reply.Made c.args.shape.pool 1 } ∷ []
+is c = rw c.in_ok-line.ensures at (event_added _ _ [] _ c.note.ensures.items (c.in_ok-reserve.ensures.items ∙ c.new-history.ensures.items))
+
 pub invariant_of-result : goal.invariant_of-result
 invariant_of-result c =
     let one : c.args.shape.devices ≡ 1 * c.args.shape.width = let d = c.requires.devices in omega arith in (
       record {
         first = record { by = 0; step = step.Made (Pool c.args.shape.pool c.args.shape.width c.args.shape.limit c.args.shape.every c.args.shape.blocks); reply = reply.Made c.args.shape.pool 1 };
         others = [];
-        is = event_added _ _ [] _ c.note.ensures.items (c.in_ok-reserve.ensures.items ∙ c.new-history.ensures.items);
+        is = is c;
         start = c.in_ok-present.present.state;
         begins = (refl, c.in_ok-present.ensures.state ∙ ap (blank_state c.args.shape.width) one);
         kept = c.in_ok-present.present.state;
         run = refl;
-        told = rw (event_added _ _ [] _ c.note.ensures.items (c.in_ok-reserve.ensures.items ∙ c.new-history.ensures.items)) (tt, tt);
+        told = rw (is c) (tt, tt);
       },
       room c,
-      record { are = ap (λ (v : ScanView). map flying_of v.flight) c.in_ok-present.ensures.scan ∙ sym (ap in_flight (event_added _ _ [] _ c.note.ensures.items (c.in_ok-reserve.ensures.items ∙ c.new-history.ensures.items))) },
+      record { are = ap (λ (v : ScanView). map flying_of v.flight) c.in_ok-present.ensures.scan ∙ sym (ap in_flight (is c)) },
     )

@@ -1,5 +1,5 @@
 -- A batch that was taken flies, as the history tells.
-use Rattle.std.proofs.Common.{◌+◌, ◌≤◌, ◌∙◌, ◌≡◌, vec_len, vec_capacity, arith, refl, sym, ap, subst}
+use Rattle.std.proofs.Common.{◌+◌, ◌≤◌, ◌∙◌, ◌≡◌, vec_len, vec_capacity, arith, refl, sym, ap}
 use Rattle.std.specs.Prelude.{List, map, false}
 use Rattle.zs_ids.specs.declared.block.Piece.{Piece}
 use Rattle.zs_scan.specs.declared.batch.Batch.{Batch}
@@ -25,8 +25,8 @@ up : (c : goal.After-note) → c.self.inside.present.state.suspended ≡ false
 up c = ap (λ v. v.core.state.suspended) c.self.view_is ∙ c.requires.up
 
 -- the event has the batch's pieces
-pieces : (c : goal.After-note) → c.from_vec.result ≡ pieces_in c.in-Ok.batch.items
-pieces c = c.from_vec.ensures ∙ (c.filled.ensures ∙ ap pieces_in c.as_slice.ensures)
+pieces : (c : goal.After-note) → c.set.new.self ≡ pieces_in c.in-Ok.batch.items
+pieces c = c.set.ensures ∙ (c.from_vec.ensures ∙ (c.filled.ensures ∙ ap pieces_in c.as_slice.ensures))
 
 pub invariant_of-self-2 : goal.invariant_of-self-2
 invariant_of-self-2 c =
@@ -35,5 +35,5 @@ invariant_of-self-2 c =
       rw c.in-Ok.ensures.state (room c),
       fly_on c.self.inside.present.scan.flight c.take.new.self.scan.flight c.self.inside.history.items c.note.new.history.items _ is (c.self.invariant).2
           (held_after c.self.inside.present.scan c.take.new.self.scan c.in-Ok.batch c.in-Ok.ensures.taken c.in-Ok.ensures.none
-          ∙ ap (λ (l : List Piece). with_batch (map flying_of c.self.inside.present.scan.flight) c.in-Ok.batch.number l) (sym (pieces c))),
+          ∙ ap (λ (l : List Piece). with_batch (map flying_of c.self.inside.present.scan.flight) c.in-Ok.batch.number c.in-Ok.batch.online l) (sym (pieces c))),
     )

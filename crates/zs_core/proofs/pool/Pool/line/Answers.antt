@@ -18,7 +18,7 @@ room c =
 pub invariant_of-self-2 : goal.invariant_of-self-2
 invariant_of-self-2 c =
     let is = event_added _ _ _ _ c.note.ensures.items c.in_ok-reserve.ensures.items in
-    let asked = rw (← c.self.view_is) at c.requires in (
+    let asked = rw (← c.self.view_is, ← c.in_ok-line.ensures) at c.requires in (
       history_on c.self.inside.present.state c.self.inside.present.state c.self.inside.history.items c.note.new.history.items _ is (c.self.invariant).0 (asked.step, refl) (asked.told, asked.none),
       room c,
       fly_still c.self.inside.present.scan.flight c.self.inside.present.scan.flight c.self.inside.history.items c.note.new.history.items _ is (c.self.invariant).2 refl refl,

@@ -26,5 +26,5 @@ pub returns-in-Refused-clause-told : goal.returns-in-Refused-clause-told
 returns-in-Refused-clause-told c = λ told is.
     rw (← c.self.view_is, ← reason_is c.in-Refused.refusal told _ refl is) (
       why_refused c.self.inside.present.state c.read_begin.new.self.state c.args.by c.args.ds.now c.args.object c.args.leaf c.in-Refused.refusal (rw c.in-Refused.is at c.in_ok-begun.ensures.step),
-      event_added _ _ _ _ c.note-in-Refused.ensures.items c.in_ok-reserve.ensures.items,
+      rw c.in_ok-line.ensures at (event_added _ _ _ _ c.note-in-Refused.ensures.items c.in_ok-reserve.ensures.items),
     )

@@ -3,7 +3,6 @@ use Rattle.std.proofs.Common.{◌+◌, ◌≤◌, ◌∙◌, ◌≡◌, vec_len,
 use Rattle.std.specs.Prelude.{List, map, Some}
 use Rattle.zs_ids.specs.declared.block.Piece.{Piece}
 use Rattle.zs_ledger.specs.declared.entry.Entry.{Entry}
-use Rattle.zs_scan.specs.declared.batch.Batch.{Batch}
 use Rattle.zs_core.specs.FlightTold.{flying_of}
 use Rattle.zs_machine.specs.Flight.{landed, in_flight, IsOfFlight}
 use Rattle.zs_machine.specs.Steps.{VerdictStep}
@@ -24,23 +23,23 @@ room c =
     omega arith
 
 -- the event has the pieces of the entries
-pieces : (c : goal.After-note-2) → c.from_vec.result ≡ map (λ (e : Entry). e.piece) c.args.v.now.entries
-pieces c = c.from_vec.ensures ∙ (c.pieces_judged.ensures ∙ ap (λ (es : List Entry). map (λ (e : Entry). e.piece) es) c.as_slice-2.ensures)
+pieces : (c : goal.After-note-2) → c.set.new.self ≡ map (λ (e : Entry). e.piece) c.args.v.now.entries
+pieces c = c.set.ensures ∙ (c.from_vec.ensures ∙ (c.pieces_judged.ensures ∙ ap (λ (es : List Entry). map (λ (e : Entry). e.piece) es) c.as_slice-2.ensures))
 
 judged : (c : goal.After-note-2) → IsJudged c.self.inside.present.scan c.args.v.now.number c.args.v.now.entries (Some c.in-Some.made.items) c.verdict.new.self.scan
 judged c = rw (c.in-Some.is, c.as_slice.ensures) at c.in_ok-made.ensures.judged
 
 -- the machine takes the entries
-steps : (c : goal.After-note-2) → VerdictStep c.self.inside.present.state c.from_vec-2.result c.verdict.new.self.state
+steps : (c : goal.After-note-2) → VerdictStep c.self.inside.present.state c.set-2.new.self c.verdict.new.self.state
 steps c =
     let made : VerdictStep c.self.inside.present.state c.in-Some.made.items c.verdict.new.self.state = rw c.in-Some.is at c.in_ok-made.ensures.step in
-    subst (λ (es : List Entry). VerdictStep c.self.inside.present.state es c.verdict.new.self.state) (sym c.from_vec-2.ensures) made
+    subst (λ (es : List Entry). VerdictStep c.self.inside.present.state es c.verdict.new.self.state) (sym (c.set-2.ensures ∙ c.from_vec-2.ensures)) made
 
 -- the batch was in flight
-of_flight : (c : goal.After-note-2) → IsOfFlight (in_flight c.self.inside.history.items) c.args.v.now.number c.from_vec.result c.from_vec-2.result
+of_flight : (c : goal.After-note-2) → IsOfFlight (in_flight c.self.inside.history.items) c.args.v.now.number c.set.new.self c.set-2.new.self
 of_flight c =
-    subst (λ (ps : List Piece). IsOfFlight (in_flight c.self.inside.history.items) c.args.v.now.number ps c.from_vec-2.result) (sym (pieces c))
-    (is_of_flight c.self.inside.present.scan.flight c.self.inside.history.items c.self.inside.present.scan c.args.v.now.number c.args.v.now.entries c.from_vec-2.result refl (c.self.invariant).2 (judged c).0)
+    subst (λ (ps : List Piece). IsOfFlight (in_flight c.self.inside.history.items) c.args.v.now.number ps c.set-2.new.self) (sym (pieces c))
+    (is_of_flight c.self.inside.present.scan.flight c.self.inside.history.items c.self.inside.present.scan c.args.v.now.number c.args.v.now.entries c.set-2.new.self refl (c.self.invariant).2 (judged c).0)
 
 pub invariant_of-self-2 : goal.invariant_of-self-2
 invariant_of-self-2 c =

@@ -77,6 +77,7 @@ width c = ended_width _ _ _ _ _ c.end_scan-self-inside.ensures ∙ started_width
 pub invariant_of-self-2 : goal.invariant_of-self-2
 invariant_of-self-2 c = record {
   shape = (facts c).shape;
+  online = (facts c).online;
   end = (facts c).end;
   width = width c ∙ (facts c).width;
   begun = (facts c).begun;
@@ -94,13 +95,13 @@ ran_on : (c : goal.After-self-5-1) → data_of c.put_in.new.heads.head c.put_in.
 ran_on c = put_data c.self.inside.heads.head c.put_in.new.heads.head c.in-Some.closed.changes.items _ c.self.inside.scan c.put_in.new.scan c.self.inside.saved (put c) (frees c)
 
 -- the items are those of its pointers
-are_items : (c : goal.After-self-5-1) → AreItemsOf c.in-Some.closed.changes.items c.in_ok-items.items.items
+are_items : (c : goal.After-self-5-1) → AreItemsOf c.in-Some.closed.changes.items c.in_ok-items.items
 are_items c = rw c.deref.ensures.value at c.in_ok-items.ensures.all
 
 -- they are those of what is born and lives
-born : (c : goal.After-self-5-1) → AreBornItems (graph_of c.run_tasks.new.heads.head) c.in-Some.closed.txg.txg c.in_ok-items.items.items
+born : (c : goal.After-self-5-1) → AreBornItems (graph_of c.run_tasks.new.heads.head) c.in-Some.closed.txg.txg c.in_ok-items.items
 born c =
-    born_items c.self.inside.heads.head c.put_in.new.heads.head c.run_tasks.new.heads.head c.self.inside.applied c.in-Some.closed.txg.txg (data_start c.self.inside.shape.blocks) c.self.inside.next_sector c.self.inside.end_sector c.in-Some.closed.txg.staged c.self.inside.open.staged c.in-Some.closed.changes.items c.in_ok-items.items.items
+    born_items c.self.inside.heads.head c.put_in.new.heads.head c.run_tasks.new.heads.head c.self.inside.applied c.in-Some.closed.txg.txg (data_start c.self.inside.shape.blocks) c.self.inside.next_sector c.self.inside.end_sector c.in-Some.closed.txg.staged c.self.inside.open.staged c.in-Some.closed.changes.items c.in_ok-items.items
     (was_closed c).number (was_closed c).changes (put c) (was_kept c) (c.run_tasks.ensures.runs_on).same (c.run_tasks.ensures.runs_on).entries (are_items c) c.in_ok-items.ensures.sorted
 
 pub returns-clause-step : goal.returns-clause-step
@@ -114,7 +115,7 @@ returns-clause-step c = rw (← c.self.view_is) (record {
 })
 
 pub returns-clause-items : goal.returns-clause-items
-returns-clause-items c = rw (← c.self.view_is) (subst (λ (closed : Option Closed). AreItemsOf (pointers_in closed) c.in_ok-items.items.items) (sym (there c)) (are_items c))
+returns-clause-items c = rw (← c.self.view_is) (subst (λ (closed : Option Closed). AreItemsOf (pointers_in closed) c.in_ok-items.items) (sym (there c)) (are_items c))
 
 pub returns-clause-complete : goal.returns-clause-complete
 returns-clause-complete c = λ was. c.end_scan-self-inside.ensures.complete.1 (ran_complete _ _ _ _ _ c.run_tasks.ensures.runs_on (freed_complete _ _ _ (frees c) (rw (← c.self.view_is) at was)))

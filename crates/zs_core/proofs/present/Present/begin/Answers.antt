@@ -3,7 +3,7 @@ use Rattle.std.proofs.Common.{◌∙◌, ap, arith}
 use Rattle.zs_objset.specs.Staged.{pointers_of}
 use Rattle.zs_core.specs.Kept.{Facts}
 use Rattle.zs_core.proofs.Closing.{between_txg, closes_head, changes_of}
-use Rattle.zs_core.proofs.Writing.{are_staged, are_in_room}
+use Rattle.zs_core.proofs.Writing.{are_staged, are_in_room, are_apart}
 use Rattle.zs_core.proofs.present.Present.begin.Goals as goal
 
 pub invariant_of-self : goal.invariant_of-self
@@ -19,6 +19,7 @@ invariant_of-self c =
     let made = c.in_ok-changes.ensures ∙ ap pointers_of c.deref.ensures.value in
     record {
       shape = f.shape;
+      online = f.online;
       end = f.end;
       width = f.width;
       begun = f.begun;
@@ -42,3 +43,7 @@ returns-clause-blocks c = let f : Facts c.self.inside = c.self.invariant in rw (
 -- they lie in the space
 pub returns-clause-within : goal.returns-clause-within
 returns-clause-within c = let f : Facts c.self.inside = c.self.invariant in rw (← c.self.view_is) (are_in_room _ _ _ c.self.inside.shape _ _ _ _ f.head c.in_ok-blocks.ensures.blocks c.in_ok-blocks.ensures.sized)
+
+-- no two of them share a sector
+pub returns-clause-apart : goal.returns-clause-apart
+returns-clause-apart c = let f : Facts c.self.inside = c.self.invariant in are_apart _ _ _ _ _ _ _ _ f.head c.in_ok-blocks.ensures.blocks

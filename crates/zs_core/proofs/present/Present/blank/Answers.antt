@@ -1,5 +1,5 @@
 -- What is true of a pool that is being made: nothing is staged, and the scan never ran.
-use Rattle.std.proofs.Common.{◌≡◌, ◌∙◌, sym, ap, subst, arith, ◌≤◌, ℕ}
+use Rattle.std.proofs.Common.{rules, ◌≡◌, ap, arith}
 use Rattle.zs_scan.specs.View.{ScanView}
 use Rattle.zs_txg.specs.Txg.{Open}
 use Rattle.zs_core.specs.Placed.{room_of}
@@ -14,6 +14,7 @@ invariant_of-result c =
     let blank_is = c.in_ok-scan.ensures.blank in
     record {
       shape = c.requires;
+      online = search rules;
       end = c.space_end-end_sector.ensures;
       width = ap (λ (v : ScanView). v.scope.width) blank_is;
       begun = rw c.data_start-next_sector.ensures (omega arith);

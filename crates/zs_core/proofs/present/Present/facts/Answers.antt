@@ -7,7 +7,7 @@ pub returns : goal.returns
 returns c =
     let f : Facts c.self.inside = c.self.invariant in
     rw (← c.self.view_is) (record {
-      shaped = record { shape = f.shape; devices = refl; width = f.width; end = f.end; begun = f.begun; space = f.space };
+      shaped = record { shape = f.shape; devices = refl; online = f.online; width = f.width; end = f.end; begun = f.begun; space = f.space };
       machine = refl;
       blocks = f.blocks;
       scanned = f.scan;

@@ -1,5 +1,5 @@
 -- The batch has its verdict: what was made may be added, and the scan stays the datasets' own.
-use Rattle.std.proofs.Common.{◌∙◌, sym, ap, refl}
+use Rattle.std.proofs.Common.{sym, ap, refl}
 use Rattle.std.proofs.lemmas.Bool.{true≢false}
 use Rattle.zs_scan.specs.View.{ScanView}
 use Rattle.zs_core.specs.Kept.{Facts, view_of}

@@ -20,6 +20,7 @@ invariant_of-self-2 c =
     let fits : c.self.inside.next_sector + c.sectors_needed-needed.result ≤ c.self.inside.end_sector = omega arith in
     record {
       shape = f.shape;
+      online = f.online;
       end = f.end;
       width = f.width;
       begun = let from : data_start c.self.inside.shape.blocks ≤ c.self.inside.next_sector = f.begun in omega (arith, from);
