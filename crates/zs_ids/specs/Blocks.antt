@@ -1,5 +1,5 @@
 -- The words for a map from keys to block pointers, seen as its entries in order of key.
-use Rattle.std.specs.Prelude.{ℕ, List, Option, filter, find, nat_lt}
+use Rattle.std.specs.Prelude.{ℕ, List, [], ◌∷◌, Option, filter, find, nat_lt}
 use Rattle.std.specs.Ordering.{is_le}
 use Rattle.std.specs.Map.{lookup, keys_of}
 use Rattle.std.specs.BTreeMap.{insert_entry, is_at}
@@ -15,6 +15,11 @@ bp_at entries key = lookup (is_at (key_cmp key)) entries
 -- the entries with this pointer at the key, in order
 abbrev pub replaced : List (Key × Bp) → Key → Bp → List (Key × Bp)
 replaced entries key bp = insert_entry key_cmp entries key bp
+
+-- the entries with these changes put in, one after the other
+abbrev pub entries_with : List (Key × Bp) → List (Key × Bp) → List (Key × Bp)
+entries_with entries [] = entries
+entries_with entries (c ∷ cs) = entries_with (replaced entries c.0 c.1) cs
 
 -- the first entry at or after `from` whose pointer is born after `above`
 abbrev pub first_from : List (Key × Bp) → Key → ℕ → Option (Key × Bp)

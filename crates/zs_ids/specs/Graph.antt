@@ -41,3 +41,13 @@ pub record IsLive (g : Graph) (p : Piece) : Type 0 where
   pub holder : Dataset
   pub is_dataset : Has g holder
   pub holds : IsHeldBy holder p
+
+-- some dataset has a block of this piece, with this size and sum
+pub record IsOfBlock (g : Graph) (piece : Piece) (sectors : ℕ) (sum : List ℕ) : Type 0 where
+  pub holder : Dataset
+  pub is_dataset : Has g holder
+  pub at : Key × Bp
+  pub is_entry : Has holder.entries at
+  pub is_piece : Has (pieces_of at.1) piece
+  pub size : sectors ≡ at.1.sectors
+  pub same_sum : sum ≡ at.1.sum

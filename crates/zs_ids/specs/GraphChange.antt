@@ -1,13 +1,17 @@
 -- The changes of a list of datasets, with what each asks.
-use Rattle.std.specs.Prelude.{◌≡◌, ◌≢◌, ◌<◌, ◌++◌, ℕ, true, false, not, List, [], ◌∷◌, Option, Some, map, filter, length, option_to_list, if◌then◌else◌}
+use Rattle.std.specs.Prelude.{◌≡◌, ◌≢◌, ◌<◌, ◌++◌, ◌⊎◌, ℕ, true, false, not, List, [], ◌∷◌, Option, Some, map, filter, length, option_to_list, if◌then◌else◌}
+use Rattle.std.specs.List.Sorted.{IsStrictlySortedBy}
 use Rattle.zs_ids.specs.declared.key.Key.{Key}
 use Rattle.zs_ids.specs.declared.block.Bp.{Bp}
+use Rattle.zs_ids.specs.declared.block.Item.{Item}
+use Rattle.zs_ids.specs.declared.block.Piece.{Piece}
 use Rattle.zs_ids.specs.declared.dataset.DsId.{DsId}
 use Rattle.zs_ids.specs.declared.dataset.Name.{Name}
 use Rattle.zs_ids.specs.declared.dataset.TheConstants.DsId.{ORIGIN}
 use Rattle.zs_ids.specs.declared.dataset.TheConstants.Name.{EMPTY}
-use Rattle.zs_ids.specs.Blocks.{replaced, IsInKeyOrder}
-use Rattle.zs_ids.specs.Graph.{Has, Dataset, Graph}
+use Rattle.zs_ids.specs.Blocks.{entries_with, IsInKeyOrder}
+use Rattle.zs_ids.specs.Graph.{Has, Dataset, Graph, IsLive, IsOfBlock}
+use Rattle.zs_ids.specs.Piece.{piece_cmp}
 use Rattle.zs_ids.specs.GraphTree.{is_id, start_of, stands_on, children_of}
 use Rattle.zs_ids.specs.GraphValid.{origin, HasBlocks, AreApart, IsWithin, Room}
 
@@ -92,18 +96,13 @@ holding id entries d = if is_id d.id id then record d { entries = entries } else
 abbrev pub swapped : Graph → Dataset → Dataset → Graph
 swapped g a b = map (λ d. holding a.id b.entries (holding b.id a.entries d)) g
 
--- the entries with these changes put in, one after the other
-abbrev pub entries_with : List (Key × Bp) → List (Key × Bp) → List (Key × Bp)
-entries_with entries [] = entries
-entries_with entries (c ∷ cs) = entries_with (replaced entries c.0 c.1) cs
-
 -- blocks are applied to a head
 abbrev pub applied : Graph → Dataset → List (Key × Bp) → Graph
 applied g head changes = map (holding head.id (entries_with head.entries changes)) g
 
--- blocks written in t may be applied to a head: its parent is older, the blocks are born in t, and with them the head
--- and the graph are in order
-pub record MayApply (room : Room) (g : Graph) (head : Dataset) (changes : List (Key × Bp)) (t : ℕ) : Type 0 where
+-- blocks written in t may be put over those of a head: its parent is older, the blocks are born in t, and with them the
+-- head is in order and all blocks lie apart
+pub record MayPut (g : Graph) (head : Dataset) (changes : List (Key × Bp)) (t : ℕ) : Type 0 where
   pub here : Has g head
   pub is_head : head.head ≡ true
   pub later : start_of g head.parent < t
@@ -111,4 +110,20 @@ pub record MayApply (room : Room) (g : Graph) (head : Dataset) (changes : List (
   pub in_order : IsInKeyOrder changes
   pub blocks : HasBlocks (record head { entries = entries_with head.entries changes }) t
   pub apart : AreApart (applied g head changes)
+
+-- they may be applied: they lie in the room of the pool besides
+pub record MayApply (room : Room) (g : Graph) (head : Dataset) (changes : List (Key × Bp)) (t : ℕ) : Type 0 where
+  pub put : MayPut g head changes t
   pub within : IsWithin room (applied g head changes)
+
+-- the blocks of the one are blocks of the other, each with its size and sum: nothing is freed
+pub record AreBlocksKept (old new : Graph) : Type 0 where
+  pub kept : (p : Piece) (sectors : ℕ) (sum : List ℕ) → IsOfBlock old p sectors sum → IsOfBlock new p sectors sum
+
+-- the items are those of the pieces that are live in the one and not in the other, with their sizes and sums, in order of
+-- place; each other piece that was live is one of a block still, with its size and sum
+pub record AreFreed (old new : Graph) (items : List Item) : Type 0 where
+  pub in_order : IsStrictlySortedBy piece_cmp (map (λ i. i.piece) items)
+  pub was_live : (i : Item) → Has items i → IsOfBlock old i.piece i.sectors i.sum
+  pub is_gone : (i : Item) → Has items i → IsLive new i.piece → ⊥
+  pub rest : (p : Piece) (sectors : ℕ) (sum : List ℕ) → IsOfBlock old p sectors sum → Has (map (λ i. i.piece) items) p ⊎ IsOfBlock new p sectors sum

@@ -1,9 +1,13 @@
 -- How the datasets of a list stand on each other, and which entries are a dataset's own.
-use Rattle.std.specs.Prelude.{◌≡◌, ◌<◌, ℕ, Bool, false, ◌==◌, List, Option, Some, None, map, filter, find}
+use Rattle.std.specs.Prelude.{◌≡◌, ◌<◌, ℕ, Bool, true, false, not, ◌==◌, ◌&&◌, nat_lt, List, [], Option, Some, None, map, filter, find, if◌then◌else◌}
+use Rattle.std.specs.Cmp.Lexicographic.{pointwise}
 use Rattle.zs_ids.specs.declared.key.Key.{Key}
 use Rattle.zs_ids.specs.declared.block.Bp.{Bp}
 use Rattle.zs_ids.specs.declared.block.Piece.{Piece}
 use Rattle.zs_ids.specs.declared.dataset.DsId.{DsId}
+use Rattle.zs_ids.specs.declared.dataset.DsName.{DsName}
+use Rattle.zs_ids.specs.declared.dataset.Name.{Name}
+use Rattle.zs_ids.specs.Blocks.{first_from}
 use Rattle.zs_ids.specs.Graph.{Has, Dataset, Graph, pieces_of}
 
 -- the two ids are one
@@ -57,3 +61,34 @@ pub record IsHomeOf (g : Graph) (id : DsId) (e : Key × Bp) (p : Piece) : Type 0
   pub named : holder.id ≡ id
   pub home : IsHome g holder e
   pub is_piece : Has (pieces_of e.1) p
+
+-- the names are the same
+abbrev pub same_name : Name → Name → Bool
+same_name a b = (a.len == b.len) && pointwise ◌==◌ a.bytes b.bytes
+
+-- the dataset has this name; the origin has none
+abbrev pub is_named : DsName → Dataset → Bool
+is_named name d = not (d.id.0 == 0) && (same_name d.owner name.owner && same_name d.label name.label)
+
+-- the dataset of that name
+abbrev pub dataset_named : Graph → DsName → Option Dataset
+dataset_named g name = find (is_named name) g
+
+-- the entries of a dataset, where there is one
+abbrev pub entries_of : Option Dataset → List (Key × Bp)
+entries_of None = []
+entries_of (Some d) = d.entries
+
+-- a dataset's first block at or after the key that is born after `above`
+abbrev pub next_in : Graph → DsId → Key → ℕ → Option (Key × Bp)
+next_in g id from above = first_from (entries_of (dataset_at g id)) from above
+
+-- the transaction group in which a snapshot was taken; none for a head
+abbrev pub taken_at : Option Dataset → Option ℕ
+taken_at None = None
+taken_at (Some d) = if d.head then None else Some d.creation
+
+-- the id is above the other one, where there is one
+abbrev pub is_above : Option DsId → DsId → Bool
+is_above None id = true
+is_above (Some other) id = nat_lt other.0 id.0

@@ -1,5 +1,5 @@
 -- When a list of datasets is one that a pool may have.
-use Rattle.std.specs.Prelude.{◌≡◌, ◌<◌, ◌≤◌, ◌⊎◌, ◌+◌, ◌-◌, ◌*◌, ◌%◌, ◌^◌, ℕ, true, false, List, [], ◌∷◌, Some, None, length, slice_index, if◌then◌else◌}
+use Rattle.std.specs.Prelude.{◌≡◌, ◌<◌, ◌≤◌, ◌⊎◌, ◌+◌, ◌-◌, ◌*◌, ◌%◌, ◌^◌, ℕ, true, false, List, [], ◌∷◌, Some, None, drop, length, slice_index, take, if◌then◌else◌}
 use Rattle.zs_ids.specs.declared.key.Key.{Key}
 use Rattle.zs_ids.specs.declared.block.Bp.{Bp}
 use Rattle.zs_ids.specs.declared.block.Place.{Place}
@@ -14,10 +14,6 @@ use Rattle.zs_ids.specs.GraphTree.{IsHome}
 -- the empty snapshot on which every filesystem stands that is no clone of another snapshot
 abbrev pub origin : Dataset
 origin = record { id = ORIGIN; head = false; owner = EMPTY; label = EMPTY; parent = None; creation = 1; entries = [] }
-
--- how many places each pointer uses in this version
-abbrev pub copies : ℕ
-copies = 1
 
 -- each id is below those after it
 abbrev pub IsInIdOrder : Graph → Type 0
@@ -47,11 +43,24 @@ pub record IsTree (g : Graph) (n : ℕ) : Type 0 where
 abbrev pub last_birth : Dataset → ℕ → ℕ
 last_birth d n = if d.head then n else d.creation
 
--- the pointer has this size in sectors and this level
+-- the blocks of that many sectors at two places share a sector
+pub record ShareSector (sectors : ℕ) (p q : Place) : Type 0 where
+  pub vdev : p.vdev ≡ q.vdev
+  pub before : p.sector < q.sector + sectors
+  pub behind : q.sector < p.sector + sectors
+
+-- the blocks of that many sectors at the places share no sector
+abbrev pub ArePlacesApart : ℕ → List Place → Type 0
+ArePlacesApart sectors [] = Unit {0}
+ArePlacesApart sectors (p ∷ ps) = ((q : Place) → Has ps q → ShareSector sectors p q → ⊥) × ArePlacesApart sectors ps
+
+-- the pointer has this size in sectors and this level, and uses one to three places, which lie apart
 pub record HasForm (bp : Bp) (sectors level : ℕ) : Type 0 where
   pub size : bp.sectors ≡ sectors
   pub height : bp.level ≡ level
-  pub places : bp.count ≡ copies
+  pub some : 1 ≤ bp.count
+  pub few : bp.count ≤ 3
+  pub apart : ArePlacesApart bp.sectors (take bp.count bp.places)
 
 -- the key of a block at a level of an object with that many levels
 pub record IsObjectKey (levels level : ℕ) (k : Key) : Type 0 where
@@ -107,6 +116,15 @@ pub record Overlap (a b : Bp) : Type 0 where
   pub vdev : first.place.vdev ≡ second.place.vdev
   pub before : first.place.sector < second.place.sector + b.sectors
   pub behind : second.place.sector < first.place.sector + a.sectors
+
+-- the pointer uses one place, and those that it does not use are zero
+pub record UsesOnePlace (bp : Bp) : Type 0 where
+  pub single : bp.count ≡ 1
+  pub unused : (p : Place) → Has (drop 1 bp.places) p → p ≡ record { vdev = 0; sector = 0 }
+
+-- each pointer of the datasets uses one place
+pub record HasOnePlace (g : Graph) : Type 0 where
+  pub each : (d : Dataset) → Has g d → (e : Key × Bp) → Has d.entries e → UsesOnePlace e.1
 
 -- no two entries at home overlap
 abbrev pub AreApart : Graph → Type 0

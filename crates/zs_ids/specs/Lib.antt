@@ -1,8 +1,8 @@
 pub mod Key
 pub mod KeyLaws
 pub mod Blocks
+pub mod Piece
 pub mod Graph
 pub mod GraphTree
 pub mod GraphValid
 pub mod GraphChange
-pub mod Piece

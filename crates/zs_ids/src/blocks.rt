@@ -1,6 +1,6 @@
 //! A dataset's map from keys to block pointers.
 
-ghost use Rattle.std.specs.Prelude.{◌≡◌, ◌<◌, [], List, length, OnOk, OnErr, IfOk};
+ghost use Rattle.std.specs.Prelude.{◌≡◌, ◌<◌, [], List, length, map, OnOk, OnErr, IfOk};
 ghost use Rattle.zs_ids.specs.Blocks.{bp_at, first_from, replaced, IsInKeyOrder};
 
 use crate::block::Bp;

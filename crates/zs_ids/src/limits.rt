@@ -15,6 +15,9 @@ pub const DEVICES: usize = 16;
 /// The greatest number of devices of a mirror.
 pub const WIDTH: u8 = 4;
 
+/// The greatest number of mirrors of a pool.
+pub const MIRRORS: usize = 8;
+
 /// The greatest size of a device, in sectors: 1 GiB.
 pub const DEVICE_SECTORS: u32 = 2_097_152;
 
@@ -35,6 +38,9 @@ pub const BLOCKS: u32 = 65_536;
 
 /// The greatest number of pieces that a pool may be told to let wait.
 pub const WAITING: u32 = 65_536;
+
+/// The greatest number of transaction groups from one checkpoint of a scan to the next.
+pub const EVERY: u32 = 1000;
 
 /// The most intervals of a device's log of missed transaction groups.
 pub const LOG_SPANS: usize = 64;
