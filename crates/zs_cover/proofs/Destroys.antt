@@ -24,14 +24,16 @@ use Rattle.zs_phys.specs.Ahead.{pending, ids_at, Ahead, Covers}
 use Rattle.zs_phys.specs.Ahead.Ahead.{later, queued, again}
 use Rattle.zs_phys.specs.Sound.{IsOfGraph, IsPass, Sound}
 use Rattle.zs_cover.specs.Laws.{StaysDone}
-use Rattle.zs_cover.proofs.Lists.{has-map, from-map, from-append}
-use Rattle.zs_cover.proofs.Graphs.{is_id-same, cases_id, one_dataset, acyclic, above-above, above_parent, below_child, from-children}
-use Rattle.zs_cover.proofs.Homes.{after_ancestor}
-use Rattle.zs_cover.proofs.States.{ids, last_in_snapshot, last_in_head}
-use Rattle.zs_cover.proofs.Changes.{covers_kept, last_same}
+use Rattle.zs_graph.proofs.Lists.{has-map, from-map, from-append}
+use Rattle.zs_graph.proofs.Graphs.{is_id-same, cases_id, one_dataset, acyclic, above-above, above_parent, below_child, from-children}
+use Rattle.zs_graph.proofs.Homes.{after_ancestor}
+use Rattle.zs_cover.proofs.States.{ids}
+use Rattle.zs_graph.proofs.Births.{last_in_snapshot, last_in_head}
+use Rattle.zs_cover.proofs.CoversKept.{covers_kept}
+use Rattle.zs_graph.proofs.Kept.{last_same}
 use Rattle.zs_cover.proofs.Renames.{IsRenamed, sound-renamed, ahead-moved, has-renamed}
-use Rattle.zs_cover.proofs.SnapshotTree.{instead-is, instead-other}
-use Rattle.zs_cover.proofs.DestroyTree as tree
+use Rattle.zs_graph.proofs.Places.{instead-is, instead-other}
+use Rattle.zs_graph.proofs.DestroyTree as tree
 use mathlib.Core.Logic.{inl, inr}
 
 -- at no dataset, the state is on none

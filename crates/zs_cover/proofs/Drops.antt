@@ -23,13 +23,15 @@ use Rattle.zs_phys.specs.Ahead.Ahead.{later, queued, passing, again}
 use Rattle.zs_phys.specs.Sound.{AreDistinct, IsOfGraph, Sound, first_todo}
 use Rattle.zs_phys.specs.Sound.EndsBy.{past, started, canceled}
 use Rattle.zs_cover.specs.Laws.{IsCovered, StaysDone, DestroyLaw}
-use Rattle.zs_cover.proofs.Lists.{has-left, has-right, has-map, from-map, from-append, has-filter, from-filter, distinct-append, distinct-left, distinct-right, distinct-apart, distinct-filter}
-use Rattle.zs_cover.proofs.Graphs.{id_is, is_id-same, is_id-other, cases_id, from-children, has-child, below_child}
+use Rattle.zs_graph.proofs.Lists.{has-left, has-right, has-map, from-map, from-append, has-filter, from-filter}
+use Rattle.zs_cover.proofs.Distinct.{distinct-append, distinct-left, distinct-right, distinct-apart, distinct-filter}
+use Rattle.zs_graph.proofs.Graphs.{id_is, is_id-same, is_id-other, cases_id, from-children, has-child, below_child}
 use Rattle.zs_cover.proofs.States.{ids, at≢nowhere, at_id}
-use Rattle.zs_cover.proofs.Changes.{covers_kept, within_kept, last_same}
-use Rattle.zs_cover.proofs.SnapshotTree.{instead-is, instead-other}
+use Rattle.zs_cover.proofs.CoversKept.{covers_kept}
+use Rattle.zs_graph.proofs.Kept.{within_kept, last_same}
+use Rattle.zs_graph.proofs.Places.{instead-is, instead-other}
 use Rattle.zs_cover.proofs.Snapshots.{ended}
-use Rattle.zs_cover.proofs.DestroyTree as tree
+use Rattle.zs_graph.proofs.DestroyTree as tree
 use Rattle.zs_cover.proofs.Destroys as with_child
 use mathlib.Core.Logic.{inl, inr}
 

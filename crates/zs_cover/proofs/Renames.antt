@@ -19,7 +19,8 @@ use Rattle.zs_phys.specs.Ahead.Ahead.{later, queued, passing, again}
 use Rattle.zs_phys.specs.Sound.{AreDistinct, IsOfGraph, IsPass, EndsBy, Sound, first_todo}
 use Rattle.zs_phys.specs.Sound.EndsBy.{past, started, canceled}
 use Rattle.zs_phys.specs.Handlers.{moved, renamed, entry_at}
-use Rattle.zs_cover.proofs.Lists.{from-map, has-map, distinct-map}
+use Rattle.zs_graph.proofs.Lists.{from-map, has-map}
+use Rattle.zs_cover.proofs.Distinct.{distinct-map}
 use Rattle.zs_cover.proofs.States.{ids, at_id, at_key}
 use mathlib.Core.Logic.{inl}
 

@@ -18,7 +18,7 @@ use Rattle.zs_phys.specs.Sound.{Sound, EndsBy, IsAtRest, first_todo}
 use Rattle.zs_phys.specs.Sound.EndsBy.{past, started, canceled}
 use Rattle.zs_cover.specs.Laws.{RestLaw, LaterLaw, EndLaw}
 use Rattle.zs_cover.proofs.Climbs.{home_is}
-use Rattle.zs_cover.proofs.Homes.{home-live}
+use Rattle.zs_graph.proofs.Homes.{home-live}
 use Rattle.zs_cover.proofs.States.{ids, at≢nowhere}
 use mathlib.Core.Logic.{inl, inr}
 

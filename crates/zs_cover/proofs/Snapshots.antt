@@ -21,12 +21,15 @@ use Rattle.zs_phys.specs.Ahead.{pending, Ahead, Covers}
 use Rattle.zs_phys.specs.Sound.{IsOfGraph, IsPass, EndsBy, Sound}
 use Rattle.zs_phys.specs.Sound.EndsBy.{past, started, canceled}
 use Rattle.zs_cover.specs.Laws.{IsCovered, StaysDone, SnapshotLaw}
-use Rattle.zs_cover.proofs.Lists.{some_is, some≢none}
-use Rattle.zs_cover.proofs.Graphs.{cases_id, one_dataset, ancestor}
-use Rattle.zs_cover.proofs.States.{at≢nowhere, last_in_head, here-pending, queued-pending}
-use Rattle.zs_cover.proofs.Changes.{covers_kept, within_kept}
+use Rattle.zs_graph.proofs.Lists.{some_is, some≢none}
+use Rattle.zs_graph.proofs.Graphs.{cases_id, one_dataset, ancestor}
+use Rattle.zs_cover.proofs.States.{at≢nowhere, here-pending, queued-pending}
+use Rattle.zs_graph.proofs.Births.{last_in_head}
+use Rattle.zs_cover.proofs.CoversKept.{covers_kept}
+use Rattle.zs_graph.proofs.Kept.{within_kept}
 use Rattle.zs_cover.proofs.Renames.{IsRenamed, sound-renamed, ahead-renamed}
-use Rattle.zs_cover.proofs.SnapshotTree as tree
+use Rattle.zs_graph.proofs.Places.{instead-is, instead-other}
+use Rattle.zs_graph.proofs.SnapshotTree as tree
 use mathlib.Core.Logic.{inl, inr}
 
 -- a state at a dataset belongs to a scan whose scope has ended
@@ -46,10 +49,10 @@ module _ (g : Graph) (n h : ℕ) (early : n ≤ h) (valid : IsValid g n) (head :
   place x = instead head.id id x
 
   place-head : (x : DsId) → x ≡ head.id → place x ≡ id
-  place-head x e = tree.instead-is head.id id x e
+  place-head x e = instead-is head.id id x e
 
   place-other : (x : DsId) → x ≢ head.id → place x ≡ x
-  place-other x ne = tree.instead-other head.id id x ne
+  place-other x ne = instead-other head.id id x ne
 
   old_id : (x : DsId) → IsOfGraph g x → x ≢ id
   old_id x is e = tree.not_new g n h early valid head id label may is.dataset is.here (is.named ∙ e)
@@ -79,18 +82,18 @@ module _ (g : Graph) (n h : ℕ) (early : n ≤ h) (valid : IsValid g n) (head :
   -- above a dataset of the new graph stands what stood above it, where it is not the new snapshot
   above_was : (a c : DsId) → a ≢ id → Above new a c → Above g a (instead id head.id c)
   above_was a _ old (direct c p) = elim (tree.now g n h early valid head id label may p.child p.here) [
-    | tree.is_snap e ↦ subst (λ (x : DsId). Above g a x) (sym (tree.instead-is id head.id c (sym p.named ∙ ap (λ (d : Dataset). d.id) (sym e)))) (direct head.id (record { child = head; here = may.here; named = refl; stands = ap (λ (d : Dataset). d.parent) e ∙ p.stands }))
+    | tree.is_snap e ↦ subst (λ (x : DsId). Above g a x) (sym (instead-is id head.id c (sym p.named ∙ ap (λ (d : Dataset). d.id) (sym e)))) (direct head.id (record { child = head; here = may.here; named = refl; stands = ap (λ (d : Dataset). d.parent) e ∙ p.stands }))
     | tree.is_above e ↦ absurd (old (sym (some_is id a (ap (λ (d : Dataset). d.parent) e ∙ p.stands))))
-    | tree.is_other i ne ↦ subst (λ (x : DsId). Above g a x) (sym (tree.instead-other id head.id c (λ e. tree.not_new g n h early valid head id label may p.child i (p.named ∙ e)))) (direct c (record { child = p.child; here = i; named = p.named; stands = p.stands }))
+    | tree.is_other i ne ↦ subst (λ (x : DsId). Above g a x) (sym (instead-other id head.id c (λ e. tree.not_new g n h early valid head id label may p.child i (p.named ∙ e)))) (direct c (record { child = p.child; here = i; named = p.named; stands = p.stands }))
   ]
   above_was a _ old (up c m p above) = elim (tree.now g n h early valid head id label may p.child p.here) [
-    | tree.is_snap e ↦ subst (λ (x : DsId). Above g a x) (sym (tree.instead-is id head.id c (sym p.named ∙ ap (λ (d : Dataset). d.id) (sym e)))) (up head.id m (record { child = head; here = may.here; named = refl; stands = ap (λ (d : Dataset). d.parent) e ∙ p.stands }) (subst (λ (x : DsId). Above g a x) (middle (record { child = head; here = may.here; named = refl; stands = ap (λ (d : Dataset). d.parent) e ∙ p.stands })) (above_was a m old above)))
-    | tree.is_above e ↦ let m_is : m ≡ id = sym (some_is id m (ap (λ (d : Dataset). d.parent) e ∙ p.stands)) in let c_is : c ≡ head.id = sym p.named ∙ ap (λ (d : Dataset). d.id) (sym e) in subst (λ (x : DsId). Above g a x) (tree.instead-is id head.id m m_is ∙ sym c_is ∙ sym (tree.instead-other id head.id c (λ x. head≢new (sym c_is ∙ x)))) (above_was a m old above)
-    | tree.is_other i ne ↦ let q : IsParent g m c = record { child = p.child; here = i; named = p.named; stands = p.stands } in subst (λ (x : DsId). Above g a x) (sym (tree.instead-other id head.id c (λ e. tree.not_new g n h early valid head id label may p.child i (p.named ∙ e)))) (up c m q (subst (λ (x : DsId). Above g a x) (middle q) (above_was a m old above)))
+    | tree.is_snap e ↦ subst (λ (x : DsId). Above g a x) (sym (instead-is id head.id c (sym p.named ∙ ap (λ (d : Dataset). d.id) (sym e)))) (up head.id m (record { child = head; here = may.here; named = refl; stands = ap (λ (d : Dataset). d.parent) e ∙ p.stands }) (subst (λ (x : DsId). Above g a x) (middle (record { child = head; here = may.here; named = refl; stands = ap (λ (d : Dataset). d.parent) e ∙ p.stands })) (above_was a m old above)))
+    | tree.is_above e ↦ let m_is : m ≡ id = sym (some_is id m (ap (λ (d : Dataset). d.parent) e ∙ p.stands)) in let c_is : c ≡ head.id = sym p.named ∙ ap (λ (d : Dataset). d.id) (sym e) in subst (λ (x : DsId). Above g a x) (instead-is id head.id m m_is ∙ sym c_is ∙ sym (instead-other id head.id c (λ x. head≢new (sym c_is ∙ x)))) (above_was a m old above)
+    | tree.is_other i ne ↦ let q : IsParent g m c = record { child = p.child; here = i; named = p.named; stands = p.stands } in subst (λ (x : DsId). Above g a x) (sym (instead-other id head.id c (λ e. tree.not_new g n h early valid head id label may p.child i (p.named ∙ e)))) (up c m q (subst (λ (x : DsId). Above g a x) (middle q) (above_was a m old above)))
   ]
     where
       middle : {x : DsId} → IsParent g m x → instead id head.id m ≡ m
-      middle q = tree.instead-other id head.id m (λ e. tree.not_on_new g n h early valid head id label may q.child q.here (q.stands ∙ ap Some e))
+      middle q = instead-other id head.id m (λ e. tree.not_on_new g n h early valid head id label may q.child q.here (q.stands ∙ ap Some e))
 
   -- below the new snapshot stands the head alone
   below_new : (c : DsId) → Above new id c → c ≡ head.id
@@ -144,8 +147,8 @@ module _ (g : Graph) (n h : ℕ) (early : n ≤ h) (valid : IsValid g n) (head :
 
         back : instead id head.id (place b) ≡ b
         back = elim (cases_id b head.id) [
-          | inl is ↦ tree.instead-is id head.id (place b) (place-head b is) ∙ sym is
-          | inr nb ↦ tree.instead-other id head.id (place b) (λ e. old_pending b j (sym (place-other b nb) ∙ e)) ∙ place-other b nb
+          | inl is ↦ instead-is id head.id (place b) (place-head b is) ∙ sym is
+          | inr nb ↦ instead-other id head.id (place b) (λ e. old_pending b j (sym (place-other b nb) ∙ e)) ∙ place-other b nb
         ]
 
     -- an old id in the place of another is that one's own

@@ -16,8 +16,8 @@ use Rattle.zs_phys.specs.Ahead.Ahead.{later}
 use Rattle.zs_phys.specs.Sound.{Sound, IsOfGraph}
 use Rattle.zs_phys.specs.Sound.EndsBy.{started as begun}
 use Rattle.zs_cover.specs.Laws.{StartLaw, MayStart, started}
-use Rattle.zs_cover.proofs.Graphs.{acyclic}
-use Rattle.zs_cover.proofs.Homes.{below_origin, origin_empty}
+use Rattle.zs_graph.proofs.Graphs.{acyclic}
+use Rattle.zs_graph.proofs.Homes.{below_origin, origin_empty}
 use Rattle.zs_cover.proofs.States.{at≢nowhere}
 use mathlib.Core.Logic.{inl, inr}
 

@@ -16,27 +16,12 @@ use Rattle.zs_phys.specs.declared.todos.Todo.{Todo}
 use Rattle.zs_phys.specs.Ahead.{pending, ids_at}
 use Rattle.zs_phys.specs.Sound.{AreDistinct, IsOfGraph, IsPass, HasNoPass, Sound}
 use Rattle.zs_phys.specs.Sound.EndsBy.{past}
-use Rattle.zs_cover.proofs.Lists.{has-map, has-right}
+use Rattle.zs_graph.proofs.Lists.{has-map, has-right}
 use mathlib.Core.Logic.{inl}
 
 -- the ids of a queue
 abbrev pub ids : List Todo → List DsId
 ids todo = map (λ (q : Todo). q.id) todo
-
--- the last birth in a snapshot, and the end of a pass over it
-pub last_in_snapshot : (d : Dataset) (n : ℕ) → d.head ≡ false → last_birth d n ≡ d.creation
-last_in_snapshot d n is = ap (λ (b : Bool). if b then n else d.creation) is
-
-pub last_in_head : (d : Dataset) (n : ℕ) → d.head ≡ true → last_birth d n ≡ n
-last_in_head d n is = ap (λ (b : Bool). if b then n else d.creation) is
-
--- the last birth is not above a later group
-pub last_at_most : (d : Dataset) (n : ℕ) → d.creation ≤ n → last_birth d n ≤ n
-last_at_most d n le = go d.head
-  where
-    go : (b : Bool) → cond b n d.creation ≤ n
-    go true = omega arith
-    go false = le
 
 -- a state at a dataset is not elsewhere
 pub at≢nowhere : (id : DsId) (k : Key) → ats.Dataset id k ≡ Nowhere → ⊥

@@ -15,7 +15,7 @@ use Rattle.zs_phys.specs.Ahead.{pending, Ahead}
 use Rattle.zs_phys.specs.Ahead.Ahead.{later, queued, passing, again}
 use Rattle.zs_phys.specs.Sound.{IsOfGraph, Sound}
 use Rattle.zs_cover.proofs.States.{here-pending, queued-pending}
-use Rattle.zs_cover.proofs.Changes.{last_same}
+use Rattle.zs_graph.proofs.Kept.{last_same}
 
 -- ancestors stay where parents do
 pub above_stays : (g g' : Graph) → ((a c : DsId) → IsParent g a c → IsParent g' a c) → (a c : DsId) → Above g a c → Above g' a c

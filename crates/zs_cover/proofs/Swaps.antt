@@ -19,12 +19,14 @@ use Rattle.zs_phys.specs.Handlers.{exchanged, with_places}
 use Rattle.zs_phys.specs.Ahead.{pending, Ahead, Covers}
 use Rattle.zs_phys.specs.Sound.{IsOfGraph, IsPass, Sound}
 use Rattle.zs_cover.specs.Laws.{IsCovered, StaysDone, SwapLaw}
-use Rattle.zs_cover.proofs.Graphs.{cases_id, one_dataset, ancestor, parent_is}
-use Rattle.zs_cover.proofs.States.{last_in_head}
-use Rattle.zs_cover.proofs.Changes.{covers_kept, within_kept, last_same}
+use Rattle.zs_graph.proofs.Graphs.{cases_id, one_dataset, ancestor, parent_is}
+use Rattle.zs_graph.proofs.Births.{last_in_head}
+use Rattle.zs_cover.proofs.CoversKept.{covers_kept}
+use Rattle.zs_graph.proofs.Kept.{within_kept, last_same}
 use Rattle.zs_cover.proofs.Stays
 use Rattle.zs_cover.proofs.Renames.{IsRenamed, sound-renamed, ahead-renamed}
-use Rattle.zs_cover.proofs.SwapTree as tree
+use Rattle.zs_graph.proofs.Places.{exchanged-first, exchanged-second, exchanged-other}
+use Rattle.zs_graph.proofs.SwapTree as tree
 use mathlib.Core.Logic.{inl, inr}
 
 module _ (g : Graph) (n h : ℕ) (early : n ≤ h) (valid : IsValid g n) (a b : Dataset) (may : MaySwap g a b) where
@@ -42,17 +44,17 @@ module _ (g : Graph) (n h : ℕ) (early : n ≤ h) (valid : IsValid g n) (a b : 
 
   which : (x : DsId) → Which x
   which x = elim (cases_id x a.id) [
-    | inl e ↦ one e (tree.exchanged-first a.id b.id x e)
+    | inl e ↦ one e (exchanged-first a.id b.id x e)
     | inr na ↦ elim (cases_id x b.id) [
-      | inl e ↦ two e (tree.exchanged-second a.id b.id x na e)
-      | inr nb ↦ other na nb (tree.exchanged-other a.id b.id x na nb)
+      | inl e ↦ two e (exchanged-second a.id b.id x na e)
+      | inr nb ↦ other na nb (exchanged-other a.id b.id x na nb)
     ]
   ]
 
   back : (x : DsId) → place (place x) ≡ x
   back x = elim (which x) [
-    | one e p ↦ tree.exchanged-second a.id b.id (place x) (λ z. may.two (sym z ∙ p)) p ∙ sym e
-    | two e p ↦ tree.exchanged-first a.id b.id (place x) p ∙ sym e
+    | one e p ↦ exchanged-second a.id b.id (place x) (λ z. may.two (sym z ∙ p)) p ∙ sym e
+    | two e p ↦ exchanged-first a.id b.id (place x) p ∙ sym e
     | other na nb p ↦ ap place p ∙ p
   ]
 
@@ -81,7 +83,7 @@ module _ (g : Graph) (n h : ℕ) (early : n ≤ h) (valid : IsValid g n) (a b : 
   pub above_renamed : (x c : DsId) → Above g x c → Above new (place x) (place c)
   above_renamed x c above =
       let ne = not_above x c above in
-      subst (λ (y : DsId). Above new y (place c)) (sym (tree.exchanged-other a.id b.id x ne.0 ne.1)) (Stays.above_stays g new (tree.parent_stays g n h early valid a b may) x (place c) (above_place x c above))
+      subst (λ (y : DsId). Above new y (place c)) (sym (exchanged-other a.id b.id x ne.0 ne.1)) (Stays.above_stays g new (tree.parent_stays g n h early valid a b may) x (place c) (above_place x c above))
 
   module _ (scope : Scope) (s : Phys) (sound : Sound g h scope s) where
     renamed_by : IsRenamed (exchanged a.id b.id) s (with_places (exchanged a.id b.id) s)
@@ -101,7 +103,7 @@ module _ (g : Graph) (n h : ℕ) (early : n ≤ h) (valid : IsValid g n) (a b : 
     unrelated x y i j above =
         let was : Above g (place x) (place y) = Stays.above_stays new g (tree.parent_was g n h early valid a b may) (place x) (place y) above in
         let ne = not_above (place x) (place y) was in
-        let own : place x ≡ x = sym (tree.exchanged-other a.id b.id (place x) ne.0 ne.1) ∙ back x in
+        let own : place x ≡ x = sym (exchanged-other a.id b.id (place x) ne.0 ne.1) ∙ back x in
         sound.unrelated x y i j (subst (λ (z : DsId). Above g x z) (back y) (above_place x (place y) (subst (λ (z : DsId). Above g z (place y)) own was)))
 
     -- a head with the place of another head
@@ -141,7 +143,7 @@ module _ (g : Graph) (n h : ℕ) (early : n ≤ h) (valid : IsValid g n) (a b : 
         ]
 
     root : place ORIGIN ≡ ORIGIN
-    root = tree.exchanged-other a.id b.id ORIGIN (tree.not_first g n h early valid a b may origin (valid.tree).root refl) (tree.not_second g n h early valid a b may origin (valid.tree).root refl)
+    root = exchanged-other a.id b.id ORIGIN (tree.not_first g n h early valid a b may origin (valid.tree).root refl) (tree.not_second g n h early valid a b may origin (valid.tree).root refl)
 
     pub sound_after : Sound new h scope (with_places (exchanged a.id b.id) s)
     sound_after = sound-renamed g new h scope (exchanged a.id b.id) s (with_places (exchanged a.id b.id) s) sound renamed_by (record { exist = exist; two = differ; unrelated = unrelated; mins = mins; root = root; pass = pass })

@@ -21,11 +21,13 @@ use Rattle.zs_phys.specs.Ahead.{pending, ids_at, Ahead}
 use Rattle.zs_phys.specs.Ahead.Ahead.{later, queued, passing, again}
 use Rattle.zs_phys.specs.Sound.{AreDistinct, IsPass, Sound}
 use Rattle.zs_phys.specs.Turn.{left, entry}
-use Rattle.zs_cover.proofs.Lists.{has-left, has-right, from-append, has-map, from-map, distinct-append}
-use Rattle.zs_cover.proofs.Graphs.{one_dataset, dataset_is, from-children, distinct-ids, in_order-filter, older, acyclic, above-above, below_child, above_parent}
-use Rattle.zs_cover.proofs.Keys.{none_from}
-use Rattle.zs_cover.proofs.Homes.{after_ancestor}
-use Rattle.zs_cover.proofs.States.{ids, at_id, at_key, at≢nowhere, last_in_snapshot, last_in_head, here-pending, Places}
+use Rattle.zs_graph.proofs.Lists.{has-left, has-right, from-append, has-map, from-map}
+use Rattle.zs_cover.proofs.Distinct.{distinct-append, distinct-ids}
+use Rattle.zs_graph.proofs.Graphs.{one_dataset, dataset_is, from-children, in_order-filter, older, acyclic, above-above, below_child, above_parent}
+use Rattle.zs_graph.proofs.Keys.{none_from}
+use Rattle.zs_graph.proofs.Homes.{after_ancestor}
+use Rattle.zs_cover.proofs.States.{ids, at_id, at_key, at≢nowhere, here-pending, Places}
+use Rattle.zs_graph.proofs.Births.{last_in_snapshot, last_in_head}
 use mathlib.Core.Logic.{inl, inr}
 
 -- the ids of two queues, one behind the other

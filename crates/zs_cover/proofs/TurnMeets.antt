@@ -22,9 +22,9 @@ use Rattle.zs_phys.specs.Ahead.{pending, ids_at, Ahead}
 use Rattle.zs_phys.specs.Ahead.Ahead.{later, queued, passing, again}
 use Rattle.zs_phys.specs.Sound.{AreDistinct, Sound}
 use Rattle.zs_phys.specs.Turn.{behind, put_by}
-use Rattle.zs_cover.proofs.Lists.{has-filter}
-use Rattle.zs_cover.proofs.Graphs.{one_dataset}
-use Rattle.zs_cover.proofs.Keys.{first_of, deeper}
+use Rattle.zs_graph.proofs.Lists.{has-filter}
+use Rattle.zs_graph.proofs.Graphs.{one_dataset}
+use Rattle.zs_graph.proofs.Keys.{first_of, deeper}
 use Rattle.zs_cover.proofs.States.{ids, at_id, at_key, Places, among}
 use mathlib.Core.Logic.{inl, inr}
 

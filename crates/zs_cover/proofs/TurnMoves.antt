@@ -20,10 +20,12 @@ use Rattle.zs_phys.specs.Ahead.{pending, ids_at, Ahead}
 use Rattle.zs_phys.specs.Ahead.Ahead.{later, queued, passing, again}
 use Rattle.zs_phys.specs.Sound.{AreDistinct, Sound, pass_end}
 use Rattle.zs_phys.specs.Turn.{left, end_of_pass}
-use Rattle.zs_cover.proofs.Graphs.{dataset_is, ancestor}
-use Rattle.zs_cover.proofs.Keys.{root_first}
-use Rattle.zs_cover.proofs.Homes.{piece_birth, scope_range, after_ancestor}
-use Rattle.zs_cover.proofs.States.{ids, at≢nowhere, at≢destroyed, at_id, last_in_snapshot, Places, among}
+use Rattle.zs_graph.proofs.Graphs.{dataset_is, ancestor}
+use Rattle.zs_graph.proofs.Keys.{root_first}
+use Rattle.zs_graph.proofs.Homes.{piece_birth, after_ancestor}
+use Rattle.zs_cover.proofs.Scopes.{scope_range}
+use Rattle.zs_cover.proofs.States.{ids, at≢nowhere, at≢destroyed, at_id, Places, among}
+use Rattle.zs_graph.proofs.Births.{last_in_snapshot}
 use mathlib.Core.Logic.{inl, inr}
 
 module _ (g : Graph) (n h : ℕ) (scope : Scope) (s : Phys) (valid : IsValid g n) (sound : Sound g h scope s) where

@@ -17,7 +17,7 @@ use Rattle.zs_phys.specs.Ahead.{Ahead, claims}
 use Rattle.zs_phys.specs.Turn.{Comes, IsWalking, advanced, put_by, left, skipped, entry}
 use Rattle.zs_phys.specs.Turn.Comes.{rests, leaves, skips, enters, meets, ends}
 use Rattle.zs_cover.specs.Laws.{IsCovered, StaysDone, TurnLaw}
-use Rattle.zs_cover.proofs.Homes.{home-live}
+use Rattle.zs_graph.proofs.Homes.{home-live}
 use Rattle.zs_cover.proofs.States.{Places, placed}
 use Rattle.zs_cover.proofs.TurnMoves.{leave-places, leave-ahead, skip-places, skip-ahead, enter-places, enter-ahead}
 use Rattle.zs_cover.proofs.TurnMeets.{meet-places, meet-ahead}

@@ -1,15 +1,16 @@
 -- The laws of coverage: each event, with its change of the graph and of the scan state, and each turn of the walk,
 -- keeps a graph valid, a state sound, and the state with what was examined covering. A scan starts so, and may finish.
-use Rattle.std.specs.Prelude.{◌≡◌, ◌≢◌, ◌≤◌, ◌+◌, ◌⊎◌, ℕ, Bool, false, List, [], Option, IsTrue}
+use Rattle.std.specs.Prelude.{◌≡◌, ◌≢◌, ◌≤◌, ◌+◌, ℕ, Bool, false, List, [], Option, IsTrue}
 use Rattle.zs_ids.specs.declared.key.Key.{Key}
 use Rattle.zs_ids.specs.declared.block.Bp.{Bp}
 use Rattle.zs_ids.specs.declared.block.Piece.{Piece}
 use Rattle.zs_ids.specs.declared.dataset.DsId.{DsId}
 use Rattle.zs_ids.specs.declared.dataset.Name.{Name}
 use Rattle.zs_ids.specs.Graph.{Has, Dataset, Graph, pieces_of, IsLive}
-use Rattle.zs_ids.specs.GraphTree.{Above, IsHomeOf}
+use Rattle.zs_ids.specs.GraphTree.{IsHomeOf}
 use Rattle.zs_ids.specs.GraphValid.{Room, Valid, origin}
 use Rattle.zs_ids.specs.GraphChange.{cloned, with_fs, with_snapshot, destroyed, swapped, applied, MayClone, MaySnapshot, MayDestroy, MaySwap, MayApply}
+use Rattle.zs_graph.specs.Climbing.{IsFoundFrom}
 use Rattle.zs_ranges.specs.declared.set.Interval.{Interval}
 use Rattle.zs_phys.specs.declared.scope.Scope.{Scope}
 use Rattle.zs_phys.specs.declared.scope.Kind.TheVariants.{Idle, Resilver}
@@ -33,16 +34,6 @@ pub record IsCovered (room : Room) (g : Graph) (n h : ℕ) (scope : Scope) (s : 
 -- what was done of the pieces that are live still stays done; the others may leave
 abbrev pub StaysDone : Graph → (Piece → Bool) → (Piece → Bool) → Type 0
 StaysDone g done more = (p : Piece) → IsLive g p → IsTrue (done p) → IsTrue (more p)
-
--- the dataset is this one, or a strict ancestor of it
-abbrev pub AtOrAbove : Graph → DsId → DsId → Type 0
-AtOrAbove g a b = (a ≡ b) ⊎ Above g a b
-
--- An entry's home is found by climbing from a dataset: it is that dataset or a strict ancestor, and each dataset from
--- the one to the other, both with them, holds the entry.
-pub record IsFoundFrom (g : Graph) (home : DsId) (e : Key × Bp) (from : Dataset) : Type 0 where
-  pub upward : AtOrAbove g home from.id
-  pub way : (d : Dataset) → Has g d → AtOrAbove g home d.id → AtOrAbove g d.id from.id → Has d.entries e
 
 -- the piece is at home in this dataset and in this entry alone
 abbrev pub IsOnlyHome : Graph → DsId → Key × Bp → Piece → Type 0

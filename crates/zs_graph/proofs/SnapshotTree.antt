@@ -11,24 +11,12 @@ use Rattle.zs_ids.specs.Graph.{Has, Dataset, Graph}
 use Rattle.zs_ids.specs.GraphTree.{is_id, IsHome, start_of}
 use Rattle.zs_ids.specs.GraphValid.{origin, IsTree, StandsOnSnapshot, last_birth, HasBlocks, Shares, IsValid}
 use Rattle.zs_ids.specs.GraphChange.{MaySnapshot, with_snapshot, snapshot_of, moved_onto}
-use Rattle.zs_phys.specs.Handlers.{instead}
-use Rattle.zs_cover.proofs.Lists.{has-left, has-right, from-append, has-map, from-map, some_is, some≢none}
-use Rattle.zs_cover.proofs.Graphs.{is_id-same, is_id-other, cases_id, one_dataset, start_is, in_order-map, in_order-push}
-use Rattle.zs_cover.proofs.States.{last_in_head}
-use Rattle.zs_cover.proofs.Changes.{IsSame, same_or_moved, last_same, blocks_kept, shares_kept, shares_all, Holds, WasHome, apart_kept}
+use Rattle.zs_graph.proofs.Places.{instead, instead-is, instead-other}
+use Rattle.zs_graph.proofs.Lists.{has-left, has-right, from-append, has-map, from-map, some_is, some≢none}
+use Rattle.zs_graph.proofs.Graphs.{is_id-same, is_id-other, cases_id, one_dataset, start_is, in_order-map, in_order-push, length-mapped}
+use Rattle.zs_graph.proofs.Births.{last_in_head}
+use Rattle.zs_graph.proofs.Kept.{IsSame, same_or_moved, last_same, blocks_kept, shares_kept, shares_all, Holds, WasHome, apart_kept}
 use mathlib.Core.Logic.{inl, inr}
-
--- as many datasets as before, and the new one
-pub length-mapped : (f : Dataset → Dataset) (g : Graph) → length (map f g) ≡ length g
-length-mapped f [] = refl
-length-mapped f (d ∷ ds) = ap suc (length-mapped f ds)
-
--- one name in place of another
-pub instead-is : (a b x : DsId) → x ≡ a → instead a b x ≡ b
-instead-is a b x e = ap (λ (t : Bool). if t then b else x) (is_id-same x a e)
-
-pub instead-other : (a b x : DsId) → x ≢ a → instead a b x ≡ x
-instead-other a b x ne = ap (λ (t : Bool). if t then b else x) (is_id-other x a ne)
 
 module _ (g : Graph) (n h : ℕ) (early : n ≤ h) (valid : IsValid g n) (head : Dataset) (id : DsId) (label : Name) (may : MaySnapshot g head id label h) where
   -- the snapshot, and the head on it

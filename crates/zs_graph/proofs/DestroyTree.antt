@@ -11,11 +11,10 @@ use Rattle.zs_ids.specs.GraphTree.{is_id, IsHome, IsParent, Above, start_of, sta
 use Rattle.zs_ids.specs.GraphTree.Above.{direct, up}
 use Rattle.zs_ids.specs.GraphValid.{origin, IsTree, StandsOnSnapshot, HasBlocks, Shares, IsValid}
 use Rattle.zs_ids.specs.GraphChange.{destroyed, without, off}
-use Rattle.zs_phys.specs.Handlers.{instead}
-use Rattle.zs_cover.proofs.Lists.{has-map, from-map, has-filter, from-filter, some_is, some≢none}
-use Rattle.zs_cover.proofs.Graphs.{is_id-same, is_id-other, cases_id, one_dataset, start_is, stands_on-is, stands_on-from, in_order-map, in_order-filter, acyclic, above-above}
-use Rattle.zs_cover.proofs.Changes.{IsSame, same_or_moved, last_same, blocks_kept, shares_kept, Holds, WasHome, apart_kept}
-use Rattle.zs_cover.proofs.SnapshotTree.{length-mapped, instead-is, instead-other}
+use Rattle.zs_graph.proofs.Places.{instead, instead-is, instead-other}
+use Rattle.zs_graph.proofs.Lists.{has-map, from-map, has-filter, from-filter, some_is, some≢none}
+use Rattle.zs_graph.proofs.Graphs.{is_id-same, is_id-other, cases_id, one_dataset, start_is, stands_on-is, stands_on-from, in_order-map, in_order-filter, acyclic, above-above, length-mapped}
+use Rattle.zs_graph.proofs.Kept.{IsSame, same_or_moved, last_same, blocks_kept, shares_kept, Holds, WasHome, apart_kept}
 use mathlib.Core.Logic.{inl, inr}
 
 length-filter : (test : Dataset → Bool) (g : Graph) → length (filter test g) ≤ length g

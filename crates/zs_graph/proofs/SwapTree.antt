@@ -9,26 +9,13 @@ use Rattle.zs_ids.specs.Graph.{Has, Dataset, Graph}
 use Rattle.zs_ids.specs.GraphTree.{is_id, IsHome, IsParent, start_of}
 use Rattle.zs_ids.specs.GraphValid.{origin, IsTree, StandsOnSnapshot, last_birth, HasBlocks, Shares, IsValid}
 use Rattle.zs_ids.specs.GraphChange.{MaySwap, swapped, holding}
-use Rattle.zs_phys.specs.Handlers.{exchanged}
-use Rattle.zs_cover.proofs.Lists.{has-map, from-map, some_is, some≢none}
-use Rattle.zs_cover.proofs.Graphs.{is_id-same, is_id-other, cases_id, one_dataset, start_is, parent_is, in_order-map}
-use Rattle.zs_cover.proofs.States.{last_in_head}
-use Rattle.zs_cover.proofs.Changes.{last_same, blocks_kept, shares_kept, Holds, WasHome, apart_kept}
-use Rattle.zs_cover.proofs.SnapshotTree.{length-mapped}
-use Rattle.zs_cover.proofs.ApplyTree.{Was}
+use Rattle.zs_graph.proofs.Places.{exchanged, exchanged-first, exchanged-second, exchanged-other}
+use Rattle.zs_graph.proofs.Lists.{has-map, from-map, some_is, some≢none}
+use Rattle.zs_graph.proofs.Graphs.{is_id-same, is_id-other, cases_id, one_dataset, start_is, parent_is, in_order-map, length-mapped}
+use Rattle.zs_graph.proofs.Births.{last_in_head}
+use Rattle.zs_graph.proofs.Kept.{last_same, blocks_kept, shares_kept, Holds, WasHome, apart_kept}
+use Rattle.zs_graph.proofs.ApplyTree.{Was}
 use mathlib.Core.Logic.{inl, inr}
-
--- each of two has the place of the other, and a third one its own
-pub exchanged-first : (a b x : DsId) → x ≡ a → exchanged a b x ≡ b
-exchanged-first a b x e = ap (λ (t : Bool). if t then b else (if is_id x b then a else x)) (is_id-same x a e)
-
-pub exchanged-second : (a b x : DsId) → x ≢ a → x ≡ b → exchanged a b x ≡ a
-exchanged-second a b x ne e =
-    ap (λ (t : Bool). if t then b else (if is_id x b then a else x)) (is_id-other x a ne) ∙ ap (λ (t : Bool). if t then a else x) (is_id-same x b e)
-
-pub exchanged-other : (a b x : DsId) → x ≢ a → x ≢ b → exchanged a b x ≡ x
-exchanged-other a b x na nb =
-    ap (λ (t : Bool). if t then b else (if is_id x b then a else x)) (is_id-other x a na) ∙ ap (λ (t : Bool). if t then a else x) (is_id-other x b nb)
 
 module _ (g : Graph) (n h : ℕ) (early : n ≤ h) (valid : IsValid g n) (a b : Dataset) (may : MaySwap g a b) where
   abbrev pub new : Graph

@@ -1,5 +1,5 @@
 -- Ids, parents and ancestors in a list of datasets.
-use Rattle.std.proofs.Common.{◌≡◌, ◌≢◌, ◌⊎◌, ◌<◌, ℕ, Bool, true, false, cond, [], ◌∷◌, ◌++◌, refl, sym, ap, subst, ◌∙◌, arith}
+use Rattle.std.proofs.Common.{◌≡◌, ◌≢◌, ◌⊎◌, ◌<◌, ℕ, Bool, true, false, cond, [], ◌∷◌, ◌++◌, length, suc, refl, sym, ap, subst, ◌∙◌, arith}
 use Rattle.std.specs.Prelude.{map, filter, IsTrue, Option, Some, None}
 use Rattle.std.proofs.lemmas.Bool.{cases_Bool, true≢false, eqb-true, eq-eqb, false_from_ne_true}
 use Rattle.zs_ids.specs.declared.dataset.DsId.{DsId}
@@ -7,8 +7,7 @@ use Rattle.zs_ids.specs.Graph.{Has, Dataset, Graph}
 use Rattle.zs_ids.specs.GraphTree.{is_id, dataset_at, created, start_of, IsParent, Above, stands_on, children_of}
 use Rattle.zs_ids.specs.GraphTree.Above.{direct, up}
 use Rattle.zs_ids.specs.GraphValid.{IsInIdOrder, IsTree, StandsOnSnapshot}
-use Rattle.zs_phys.specs.Sound.{AreDistinct}
-use Rattle.zs_cover.proofs.Lists.{find_is, some_is, some≢none, from-map, has-map, has-filter, from-filter}
+use Rattle.zs_graph.proofs.Lists.{find_is, some_is, some≢none, from-map, has-map, has-filter, from-filter}
 use mathlib.Core.Logic.{inl, inr}
 
 -- ids that are one by the test are one
@@ -68,13 +67,7 @@ pub has-child : (g : Graph) (a c : DsId) → IsParent g a c → Has (children_of
 has-child g a c p =
     subst (λ (x : DsId). Has (children_of g a) x) p.named (has-map (λ (d : Dataset). d.id) (filter (λ (d : Dataset). stands_on a d.parent) g) p.child (has-filter (λ (d : Dataset). stands_on a d.parent) g p.child p.here (stands_on-from a (p.child).parent p.stands)))
 
--- the ids of a list in order of id are distinct
-pub distinct-ids : (g : Graph) → IsInIdOrder g → AreDistinct (map (λ (d : Dataset). d.id) g)
-distinct-ids [] o = tt
-distinct-ids (d ∷ ds) o =
-    (λ h. let r = from-map (λ (x : Dataset). x.id) ds d.id h in let below : d.id.0 < (r.0).id.0 = o.0 r.0 r.1 in let same : (r.0).id.0 ≡ d.id.0 = ap (λ (x : DsId). x.0) r.2 in absurd (omega (arith, below, same)), distinct-ids ds o.1)
-
--- and so are those of a filtered list
+-- a filtered list stays in order of id
 pub in_order-filter : (test : Dataset → Bool) (g : Graph) → IsInIdOrder g → IsInIdOrder (filter test g)
 in_order-filter test [] o = tt
 in_order-filter test (d ∷ ds) o = go (test d) (in_order-filter test ds o.1)
@@ -100,6 +93,11 @@ in_order-push (y ∷ ys) d o new =
     from-end [] x (inr h) = absurd h
     from-end (z ∷ zs) x (inl e) = inl (inl e)
     from-end (z ∷ zs) x (inr h) = elim (from-end zs x h) [ inl l ↦ inl (inr l) | inr e ↦ inr e ]
+
+-- as many datasets as before, and the new one
+pub length-mapped : (f : Dataset → Dataset) (g : Graph) → length (map f g) ≡ length g
+length-mapped f [] = refl
+length-mapped f (d ∷ ds) = ap suc (length-mapped f ds)
 
 module _ (g : Graph) (n : ℕ) (tree : IsTree g n) where
   -- a parent is a snapshot of the list, older than its child where that is a snapshot

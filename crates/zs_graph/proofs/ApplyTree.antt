@@ -9,16 +9,15 @@ use Rattle.zs_ids.specs.declared.key.Key.{Key}
 use Rattle.zs_ids.specs.declared.block.Bp.{Bp}
 use Rattle.zs_ids.specs.declared.dataset.DsId.{DsId}
 use Rattle.zs_ids.specs.Key.{key_cmp}
-use Rattle.zs_ids.specs.Blocks.{replaced}
+use Rattle.zs_ids.specs.Blocks.{replaced, entries_with}
 use Rattle.zs_ids.specs.Graph.{Has, Dataset, Graph}
 use Rattle.zs_ids.specs.GraphTree.{is_id, IsHome, IsParent, start_of}
-use Rattle.zs_ids.specs.GraphValid.{origin, IsTree, StandsOnSnapshot, HasBlocks, Shares, IsValid, Room, Valid}
-use Rattle.zs_ids.specs.GraphChange.{MayApply, applied, holding, entries_with}
-use Rattle.zs_cover.proofs.Lists.{has-map, from-map, some_is, some≢none}
-use Rattle.zs_cover.proofs.Graphs.{is_id-same, is_id-other, cases_id, one_dataset, start_is, in_order-map}
-use Rattle.zs_cover.proofs.Keys.{key_equal}
-use Rattle.zs_cover.proofs.Changes.{last_same, blocks_kept}
-use Rattle.zs_cover.proofs.SnapshotTree.{length-mapped}
+use Rattle.zs_ids.specs.GraphValid.{origin, IsTree, StandsOnSnapshot, HasBlocks, Shares, IsValid}
+use Rattle.zs_ids.specs.GraphChange.{MayPut, applied, holding}
+use Rattle.zs_graph.proofs.Lists.{has-map, from-map, some_is, some≢none}
+use Rattle.zs_graph.proofs.Graphs.{is_id-same, is_id-other, cases_id, one_dataset, start_is, in_order-map, length-mapped}
+use Rattle.zs_graph.proofs.Keys.{key_equal}
+use Rattle.zs_graph.proofs.Kept.{last_same, blocks_kept}
 use mathlib.Core.Logic.{inl, inr}
 
 -- what entries have after a pointer was put in: it, or what they had
@@ -73,7 +72,8 @@ pub record Was (g : Graph) (x : Dataset) : Type 0 where
   pub parent : x.parent ≡ old.parent
   pub creation : x.creation ≡ old.creation
 
-module _ (room : Room) (g : Graph) (n h : ℕ) (early : n ≤ h) (valid : IsValid g n) (head : Dataset) (changes : List (Key × Bp)) (may : MayApply room g head changes h) where
+-- blocks of the transaction group t, in a graph that is valid up to n, and afterwards up to h
+module _ (g : Graph) (n t h : ℕ) (early : n ≤ h) (late : t ≤ h) (valid : IsValid g n) (head : Dataset) (changes : List (Key × Bp)) (may : MayPut g head changes t) where
   abbrev pub new : Graph
   new = applied g head changes
 
@@ -156,7 +156,7 @@ module _ (room : Room) (g : Graph) (n h : ℕ) (early : n ≤ h) (valid : IsVali
 
   holds_blocks : (x : Dataset) → Has new x → HasBlocks x h
   holds_blocks x i = elim (now x i) [
-    | is_head e ↦ subst (λ (d : Dataset). HasBlocks d h) e may.blocks
+    | is_head e ↦ subst (λ (d : Dataset). HasBlocks d h) e (blocks_kept head_with head_with t h refl (last_same head_with head_with t h refl refl late) may.blocks)
     | is_other j ne ↦ blocks_kept x x n h refl (last_same x x n h refl refl early) (valid.holds x j)
   ]
 
@@ -168,14 +168,14 @@ module _ (room : Room) (g : Graph) (n h : ℕ) (early : n ≤ h) (valid : IsVali
   ]
 
   -- the head's parent is older than the blocks
-  parent_older : (p : Dataset) → Has g p → head.parent ≡ Some p.id → p.creation < h
-  parent_older p i e = subst (λ (k : ℕ). k < h) (start_is g (valid.tree).in_order p head.parent i e) may.later
+  parent_older : (p : Dataset) → Has g p → head.parent ≡ Some p.id → p.creation < t
+  parent_older p i e = subst (λ (k : ℕ). k < t) (start_is g (valid.tree).in_order p head.parent i e) may.later
 
   shares_head : (p : Dataset) → Has g p → head.parent ≡ Some p.id → Shares head p → Shares head_with p
   shares_head p i e s = record {
     keys = λ f j. let b = s.keys f j in let r = keys_stay head.entries changes b.entry b.is_entry in record { entry = r.0; is_entry = r.1; is_key = r.2 ∙ b.is_key; later = omega arith };
     shared = λ f j old. elim (from-with head.entries changes f j) [
-      | inl c ↦ let born : f.1.birth ≡ h = may.born f c in let less : p.creation < h = parent_older p i e in absurd (omega (arith, born, less, old))
+      | inl c ↦ let born : f.1.birth ≡ t = may.born f c in let less : p.creation < t = parent_older p i e in absurd (omega (arith, born, less, old))
       | inr k ↦ s.shared f k old
     ];
   }
@@ -189,8 +189,8 @@ module _ (room : Room) (g : Graph) (n h : ℕ) (early : n ≤ h) (valid : IsVali
     ]
   ]
 
-  pub new_valid : Valid room new h
-  new_valid = record { graph = record { tree = tree; holds = holds_blocks; shares = shares; apart = may.apart }; within = may.within }
+  pub new_valid : IsValid new h
+  new_valid = record { tree = tree; holds = holds_blocks; shares = shares; apart = may.apart }
 
   -- each dataset starts where it started
   start_other : (x old : Dataset) → Has g old → x.parent ≡ old.parent → StandsOnSnapshot g old → start_of new x.parent ≡ start_of g old.parent
@@ -198,7 +198,7 @@ module _ (room : Room) (g : Graph) (n h : ℕ) (early : n ≤ h) (valid : IsVali
       start_is new (tree.in_order) s.below x.parent (has_other s.below s.here (not_head s.below s.here s.is_snapshot)) (e ∙ s.is_parent) ∙ sym (start_is g (valid.tree).in_order s.below old.parent s.here s.is_parent)
 
   -- what is at home now was at home before in the same dataset, or is one of the changes
-  pub was_home : (x : Dataset) (e : Key × Bp) → IsHome new x e → (e.1.birth ≡ h) ⊎ ((y : Dataset) × IsHome g y e × (y.id ≡ x.id))
+  pub was_home : (x : Dataset) (e : Key × Bp) → IsHome new x e → (e.1.birth ≡ t) ⊎ ((y : Dataset) × IsHome g y e × (y.id ≡ x.id))
   was_home x e home = elim (now x home.here) [
     | is_head ex ↦ elim (from-with head.entries changes e (subst (λ (d : Dataset). Has d.entries e) (sym ex) home.holds)) [
       | inl c ↦ inl (may.born e c)

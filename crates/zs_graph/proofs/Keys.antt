@@ -13,16 +13,16 @@ use Rattle.zs_ids.specs.declared.block.Bp.{Bp}
 use Rattle.zs_ids.specs.Key.{key_cmp, root_key}
 use Rattle.zs_ids.specs.Blocks.{first_from, IsInKeyOrder}
 use Rattle.zs_ids.specs.Graph.{Has}
-use Rattle.zs_cover.proofs.Lists.{some_is, none-find, from-find, from-filter, has-filter}
+use Rattle.zs_graph.proofs.Lists.{some_is, none-find, from-find, from-filter, has-filter}
 use mathlib.Core.Logic.{inl, inr}
 
 -- an ordering as a number, to tell them apart
-abbrev rank : Ordering → ℕ
+abbrev pub rank : Ordering → ℕ
 rank Less = 0
 rank Equal = 1
 rank Greater = 2
 
-less≢greater : Greater ≡ Less → ⊥
+pub less≢greater : Greater ≡ Less → ⊥
 less≢greater e = let n : 2 ≡ 0 = ap rank e in omega (arith, n)
 
 -- the first of two orderings decides, or the second where the first finds no difference
@@ -35,7 +35,7 @@ le_then : (x y : Ordering) → (x ≡ Less) ⊎ ((x ≡ Equal) × IsTrue (is_le 
 le_then x y (inl e) = subst (λ (o : Ordering). IsTrue (is_le (ordering_then o y))) (sym e) refl
 le_then x y (inr h) = subst (λ (o : Ordering). IsTrue (is_le (ordering_then o y))) (sym h.0) h.1
 
-number_less : (a b : ℕ) → nat_cmp a b ≡ Less → a < b
+pub number_less : (a b : ℕ) → nat_cmp a b ≡ Less → a < b
 number_less a b e = go (nat_lt a b) refl (a == b) e
   where
     go : (t : Bool) → nat_lt a b ≡ t → (u : Bool) → cond t Less (cond u Equal Greater) ≡ Less → a < b
@@ -46,7 +46,7 @@ number_less a b e = go (nat_lt a b) refl (a == b) e
         rest true e3 = let n : 1 ≡ 0 = ap rank e3 in omega (arith, n)
         rest false e3 = less≢greater e3
 
-number_equal : (a b : ℕ) → nat_cmp a b ≡ Equal → a ≡ b
+pub number_equal : (a b : ℕ) → nat_cmp a b ≡ Equal → a ≡ b
 number_equal a b e = go (nat_lt a b) (a == b) refl e
   where
     go : (t u : Bool) → (a == b) ≡ u → cond t Less (cond u Equal Greater) ≡ Equal → a ≡ b
@@ -54,10 +54,10 @@ number_equal a b e = go (nat_lt a b) (a == b) refl e
     go false true is e2 = eqb-true a b is
     go false false is e2 = let n : 2 ≡ 1 = ap rank e2 in absurd (omega (arith, n))
 
-is_less : (a b : ℕ) → a < b → nat_cmp a b ≡ Less
+pub is_less : (a b : ℕ) → a < b → nat_cmp a b ≡ Less
 is_less a b l = ap (λ (t : Bool). cond t Less (cond (a == b) Equal Greater)) (lt-ltb a b l)
 
-is_equal : (a b : ℕ) → a ≡ b → nat_cmp a b ≡ Equal
+pub is_equal : (a b : ℕ) → a ≡ b → nat_cmp a b ≡ Equal
 is_equal a b e =
     let same : b ≤ a = omega (arith, e) in
     ap (λ (t : Bool). cond t Less (cond (a == b) Equal Greater)) (le-ltb a b same) ∙ ap (λ (t : Bool). cond t Equal Greater) (eq-eqb a b e)

@@ -12,10 +12,8 @@ use Rattle.zs_ids.specs.Graph.{Has, Dataset, Graph, pieces_of, IsLive}
 use Rattle.zs_ids.specs.GraphTree.{IsHome, IsParent, Above}
 use Rattle.zs_ids.specs.GraphTree.Above.{direct, up}
 use Rattle.zs_ids.specs.GraphValid.{origin, IsTree, StandsOnSnapshot}
-use Rattle.zs_phys.specs.declared.scope.Scope.{Scope}
-use Rattle.zs_phys.specs.Scope.{in_scope, is_wanted}
-use Rattle.zs_cover.proofs.Lists.{from-map}
-use Rattle.zs_cover.proofs.Graphs.{start_is, older, stands_of, parent_id, parent_is}
+use Rattle.zs_graph.proofs.Lists.{from-map}
+use Rattle.zs_graph.proofs.Graphs.{start_is, older, stands_of, parent_id, parent_is}
 use mathlib.Core.Logic.{inl, inr}
 
 -- a piece is born with its block
@@ -23,13 +21,6 @@ pub piece_birth : (bp : Bp) (p : Piece) → Has (pieces_of bp) p → p.birth ≡
 piece_birth bp p h =
     let r = from-map (λ (q : Place). let piece : Piece = record { place = q; birth = bp.birth } in piece) (take bp.count bp.places) p h in
     ap (λ (x : Piece). x.birth) (sym r.2)
-
--- a piece in scope is born in the range
-pub scope_range : (scope : Scope) (p : Piece) → IsTrue (in_scope scope p) → (scope.min < p.birth) × (p.birth < scope.max)
-scope_range scope p t =
-    let a = and_parts (nat_lt scope.min p.birth && nat_lt p.birth scope.max) (is_wanted scope.kind scope p) t in
-    let b = and_parts (nat_lt scope.min p.birth) (nat_lt p.birth scope.max) a.0 in
-    (ltb-true scope.min p.birth b.0, ltb-true p.birth scope.max b.1)
 
 -- a piece of an entry at home is live
 pub home-live : (g : Graph) (d : Dataset) (e : Key × Bp) (p : Piece) → IsHome g d e → Has (pieces_of e.1) p → IsLive g p

@@ -1,0 +1,6 @@
+pub mod View
+pub mod ByIndex
+pub mod Climbing
+pub mod Refusals
+pub mod Made
+pub mod Frees
