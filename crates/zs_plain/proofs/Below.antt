@@ -5,7 +5,7 @@ use Rattle.zs_ids.specs.declared.dataset.DsId.{DsId}
 use Rattle.zs_ids.specs.Graph.{Has, Dataset, Graph}
 use Rattle.zs_ids.specs.GraphTree.{Above, IsParent}
 use Rattle.zs_ids.specs.GraphTree.Above.{direct, up}
-use Rattle.zs_cover.proofs.Lists.{has-left, has-right, from-append, from-find, none-find, some_is, some≢none}
+use Rattle.zs_graph.proofs.Lists.{has-left, has-right, from-append, from-find, none-find, some_is, some≢none}
 use Rattle.zs_plain.specs.Tests.{has_id, stands_on_one, is_next}
 use Rattle.zs_plain.specs.Below.{IsBelow}
 use Rattle.zs_plain.proofs.Decide.{has_id-is}

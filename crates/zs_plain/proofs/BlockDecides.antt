@@ -1,6 +1,6 @@
 -- The tests of a dataset's blocks, and of what it shares with its parent, decide them.
 use Rattle.std.proofs.Common.{◌≡◌, ◌⊎◌, ◌<◌, ◌≤◌, ◌+◌, ◌-◌, ◌*◌, ◌%◌, ◌/◌, ◌^◌, ℕ, zero, suc, Bool, true, false, not, ◌&&◌, ◌||◌, cond, List, [], ◌∷◌, refl, sym, ap, subst, ◌∙◌, Option, Some, None, find, arith}
-use Rattle.std.specs.Prelude.{nat_le, nat_lt, ◌==◌, bytes_eq, unwrap_or}
+use Rattle.std.specs.Prelude.{nat_le, nat_lt, ◌==◌, bytes_eq, take, unwrap_or}
 use Rattle.std.specs.Bool.{Decides}
 use Rattle.std.specs.List.{list_any, list_all, AllByRecursion}
 use Rattle.std.specs.List.Sorted.{IsStrictlySortedBy}
@@ -18,11 +18,11 @@ use Rattle.zs_ids.specs.declared.block.Place.{Place}
 use Rattle.zs_ids.specs.Key.{key_cmp, root_key, dnode_key, parent_of}
 use Rattle.zs_ids.specs.Blocks.{IsInKeyOrder}
 use Rattle.zs_ids.specs.Graph.{Has, Dataset}
-use Rattle.zs_ids.specs.GraphValid.{last_birth, record_sizes, HasForm, IsObjectKey, IsBlock, HasBlock, HasBlocks, Shares}
+use Rattle.zs_ids.specs.GraphValid.{last_birth, record_sizes, ShareSector, ArePlacesApart, HasForm, IsObjectKey, IsBlock, HasBlock, HasBlocks, Shares}
 use Rattle.zs_ids.specs.GraphValid.IsBlock.{root, dnodes, inner, leaf}
-use Rattle.zs_cover.proofs.Lists.{some_is, some≢none}
+use Rattle.zs_graph.proofs.Lists.{some_is, some≢none}
 use Rattle.zs_plain.specs.TreeTests.{is_key}
-use Rattle.zs_plain.specs.BlockTests.{keys_rise, has_form, is_object_key, is_dnodes_key, is_inner, is_leaf, is_block, has_block, has_parent, is_in_order, fits_object, fits_levels, level_counts, has_levels, has_blocks, is_place, is_pointer, is_entry, does_share}
+use Rattle.zs_plain.specs.BlockTests.{keys_rise, share_sector, are_places_apart, has_places, has_form, is_object_key, is_dnodes_key, is_inner, is_leaf, is_block, has_block, has_parent, is_in_order, fits_object, fits_levels, level_counts, has_levels, has_blocks, is_place, is_pointer, is_entry, does_share}
 use Rattle.zs_plain.proofs.Decide.{like, itself, implies, at_most, some-of, each-of, has-of}
 use Rattle.zs_plain.proofs.SoundDecides.{fails}
 use Rattle.zs_plain.proofs.TreeDecides.{key_is}
@@ -49,9 +49,26 @@ rise_is [] = (λ e. tt, λ h. refl)
 rise_is (e ∷ es) =
     Decides-and (list_all (λ (f : Key × Bp). is_lt (key_cmp e.0 f.0)) es) (keys_rise es) (above_is e.0 es) (rise_is es)
 
+sharing_is : (sectors : ℕ) (p q : Place) → Decides (share_sector sectors p q) (ShareSector sectors p q)
+sharing_is sectors p q =
+    like (share_sector sectors p q) (Decides-and (p.vdev == q.vdev) (nat_lt p.sector (q.sector + sectors) && nat_lt q.sector (p.sector + sectors)) (Decides-eqb p.vdev q.vdev) (Decides-and (nat_lt p.sector (q.sector + sectors)) (nat_lt q.sector (p.sector + sectors)) (Decides-ltb p.sector (q.sector + sectors)) (Decides-ltb q.sector (p.sector + sectors)))) (λ w. record { vdev = w.0; before = w.1.0; behind = w.1.1 }) (λ s. (s.vdev, (s.before, s.behind)))
+
+denied : {P : Type 0} (r : Bool) → Decides r P → Decides (not r) (P → ⊥)
+denied true d = (λ e p. true≢false (sym e), λ f. absurd (f (d.0 refl)))
+denied false d = (λ e p. true≢false (sym (d.1 p)), λ f. refl)
+
+apart_is : (sectors : ℕ) (ps : List Place) → Decides (are_places_apart sectors ps) (ArePlacesApart sectors ps)
+apart_is sectors [] = (λ e. tt, λ h. refl)
+apart_is sectors (p ∷ ps) =
+    Decides-and (list_all (λ (q : Place). not (share_sector sectors p q)) ps) (are_places_apart sectors ps) (each-of (λ (q : Place). not (share_sector sectors p q)) (λ (q : Place). ShareSector sectors p q → ⊥) (λ q. denied (share_sector sectors p q) (sharing_is sectors p q)) ps) (apart_is sectors ps)
+
+places_is : (bp : Bp) → Decides (has_places bp) ((1 ≤ bp.count) × ((bp.count ≤ 3) × ArePlacesApart bp.sectors (take bp.count bp.places)))
+places_is bp =
+    Decides-and (nat_le 1 bp.count) (nat_le bp.count 3 && are_places_apart bp.sectors (take bp.count bp.places)) (at_most 1 bp.count) (Decides-and (nat_le bp.count 3) (are_places_apart bp.sectors (take bp.count bp.places)) (at_most bp.count 3) (apart_is bp.sectors (take bp.count bp.places)))
+
 form_is : (bp : Bp) (sectors level : ℕ) → Decides (has_form bp sectors level) (HasForm bp sectors level)
 form_is bp sectors level =
-    like (has_form bp sectors level) (Decides-and (bp.sectors == sectors) (bp.level == level && bp.count == 1) (Decides-eqb bp.sectors sectors) (Decides-and (bp.level == level) (bp.count == 1) (Decides-eqb bp.level level) (Decides-eqb bp.count 1))) (λ w. record { size = w.0; height = w.1.0; places = w.1.1 }) (λ f. (f.size, (f.height, f.places)))
+    like (has_form bp sectors level) (Decides-and (bp.sectors == sectors) (bp.level == level && has_places bp) (Decides-eqb bp.sectors sectors) (Decides-and (bp.level == level) (has_places bp) (Decides-eqb bp.level level) (places_is bp))) (λ w. record { size = w.0; height = w.1.0; some = w.1.1.0; few = w.1.1.1.0; apart = w.1.1.1.1 }) (λ f. (f.size, (f.height, (f.some, (f.few, f.apart)))))
 
 object_is : (levels level span leaves : ℕ) (k : Key) → span ≡ 64 ^ level → leaves ≡ 64 ^ (levels - 1) → Decides (is_object_key span leaves level k) (IsObjectKey levels level k)
 object_is levels level span leaves k spans many =

@@ -9,7 +9,7 @@ use Rattle.zs_ids.specs.declared.block.Piece.{Piece}
 use Rattle.zs_ids.specs.declared.dataset.DsId.{DsId}
 use Rattle.zs_ids.specs.Graph.{Has}
 use Rattle.zs_ids.specs.GraphTree.{is_id}
-use Rattle.zs_cover.proofs.Graphs.{id_is, is_id-same}
+use Rattle.zs_graph.proofs.Graphs.{id_is, is_id-same}
 use Rattle.zs_ids.specs.Piece.{is_piece}
 use Rattle.zs_plain.specs.Tests.{has_id, has_piece}
 use mathlib.Core.Logic.{inl, inr}

@@ -7,7 +7,7 @@ use Rattle.zs_ids.specs.declared.block.Piece.{Piece}
 use Rattle.zs_ids.specs.declared.dataset.DsId.{DsId}
 use Rattle.zs_ids.specs.Graph.{Has, Dataset, Graph, IsLive, pieces_of}
 use Rattle.zs_ids.specs.GraphTree.{IsHomeOf, start_of}
-use Rattle.zs_cover.proofs.Lists.{has-left, has-right, from-append, from-find, none-find}
+use Rattle.zs_graph.proofs.Lists.{has-left, has-right, from-append, from-find, none-find}
 use Rattle.zs_plain.specs.Tests.{has_piece, is_own, pieces_held}
 use Rattle.zs_plain.proofs.Decide.{has_piece-is}
 use Rattle.zs_plain.proofs.Passed.{has_at, passed_more}

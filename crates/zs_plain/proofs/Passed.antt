@@ -4,7 +4,7 @@ use Rattle.std.specs.Prelude.{filter}
 use Rattle.std.proofs.lemmas.Bool.{true≢false}
 use Rattle.std.proofs.lemmas.List.{take_more, take_all, take-append-drop}
 use Rattle.zs_ids.specs.Graph.{Has}
-use Rattle.zs_cover.proofs.Lists.{from-append, has-right, has-left}
+use Rattle.zs_graph.proofs.Lists.{from-append, has-right, has-left}
 use mathlib.Core.Logic.{inl, inr}
 
 module _ {A : Type 0} where

@@ -16,8 +16,8 @@ use Rattle.zs_ids.specs.declared.dataset.TheConstants.Name.{EMPTY}
 use Rattle.zs_ids.specs.Graph.{Has, Dataset, Graph, IsLive, pieces_of}
 use Rattle.zs_ids.specs.GraphTree.{is_id, start_of, stands_on}
 use Rattle.zs_ids.specs.GraphValid.{origin, IsInIdOrder, StandsOnSnapshot, IsTree, Overlap, AreApart, Room, LiesIn, HasAtMost}
-use Rattle.zs_cover.proofs.Lists.{some≢none, has-filter}
-use Rattle.zs_cover.proofs.Graphs.{stands_on-is, stands_on-from}
+use Rattle.zs_graph.proofs.Lists.{some≢none, has-filter}
+use Rattle.zs_graph.proofs.Graphs.{stands_on-is, stands_on-from}
 use Rattle.zs_ids.specs.Piece.{is_piece}
 use Rattle.zs_plain.specs.Tests.{has_piece}
 use Rattle.zs_plain.specs.TreeTests.{is_name, is_same, has_no_parent, is_origin, is_under, rise, are_named_apart, is_placed, is_tree, is_key, do_meet, do_overlap, is_apart, is_apart_from, lies_apart, are_apart, lies_in, do_lie_in, each_once}

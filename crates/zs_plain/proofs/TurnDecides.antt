@@ -23,8 +23,8 @@ use Rattle.zs_phys.specs.declared.todos.Todo.{Todo}
 use Rattle.zs_phys.specs.Turn.{IsWalking, HasNoWork, Comes}
 use Rattle.zs_phys.specs.Turn.HasNoWork.{no_scan, paused, none_left}
 use Rattle.zs_phys.specs.Turn.Comes.{rests, leaves, skips, enters, meets, ends}
-use Rattle.zs_cover.proofs.Lists.{from-find, none-find, some_is, some≢none}
-use Rattle.zs_cover.proofs.Graphs.{id_is, is_id-same, dataset_is}
+use Rattle.zs_graph.proofs.Lists.{from-find, none-find, some_is, some≢none}
+use Rattle.zs_graph.proofs.Graphs.{id_is, is_id-same, dataset_is}
 use Rattle.zs_plain.specs.TurnTests.{is_scanning, is_walking, queue_step, block_step, walk_step, next_step}
 
 scanning≢never : Scanning ≡ Never → ⊥

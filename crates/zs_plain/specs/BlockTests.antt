@@ -1,5 +1,5 @@
 -- The tests by which this crate decides whether a dataset's blocks are in order, and which it shares with its parent.
-use Rattle.std.specs.Prelude.{◌==◌, ◌&&◌, ◌||◌, ◌-◌, ◌+◌, ◌%◌, ◌^◌, not, ℕ, Bool, true, nat_lt, nat_le, List, [], ◌∷◌, Option, Some, None, bytes_eq}
+use Rattle.std.specs.Prelude.{◌==◌, ◌&&◌, ◌||◌, ◌-◌, ◌+◌, ◌%◌, ◌^◌, not, ℕ, Bool, true, nat_lt, nat_le, List, [], ◌∷◌, Option, Some, None, bytes_eq, take}
 use Rattle.std.specs.List.{list_any, list_all}
 use Rattle.std.specs.Ordering.{is_lt}
 use Rattle.std.specs.Cmp.Lexicographic.{pointwise}
@@ -17,8 +17,21 @@ abbrev pub keys_rise : List (Key × Bp) → Bool
 keys_rise [] = true
 keys_rise (e ∷ es) = list_all (λ f. is_lt (key_cmp e.0 f.0)) es && keys_rise es
 
+-- the blocks of that many sectors at two places share a sector
+abbrev pub share_sector : ℕ → Place → Place → Bool
+share_sector sectors p q = p.vdev == q.vdev && (nat_lt p.sector (q.sector + sectors) && nat_lt q.sector (p.sector + sectors))
+
+-- the blocks of that many sectors at the places share no sector
+abbrev pub are_places_apart : ℕ → List Place → Bool
+are_places_apart sectors [] = true
+are_places_apart sectors (p ∷ ps) = list_all (λ q. not (share_sector sectors p q)) ps && are_places_apart sectors ps
+
+-- the pointer uses one to three places, which lie apart
+abbrev pub has_places : Bp → Bool
+has_places bp = nat_le 1 bp.count && (nat_le bp.count 3 && are_places_apart bp.sectors (take bp.count bp.places))
+
 abbrev pub has_form : Bp → ℕ → ℕ → Bool
-has_form bp sectors level = bp.sectors == sectors && (bp.level == level && bp.count == 1)
+has_form bp sectors level = bp.sectors == sectors && (bp.level == level && has_places bp)
 
 -- the key of a block at a level of an object, where `span` is how many leaves the block covers, and `leaves` how many
 -- leaves the object may have

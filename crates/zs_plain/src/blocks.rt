@@ -5,12 +5,12 @@ ghost use Rattle.std.specs.List.{list_any, list_all};
 ghost use Rattle.std.specs.Ordering.{is_lt};
 ghost use Rattle.zs_ids.specs.Key.{key_cmp};
 ghost use Rattle.zs_ids.specs.GraphValid.{HasBlocks, Shares, last_birth};
-ghost use Rattle.zs_plain.specs.BlockTests.{does_share, fits_levels, fits_object, has_block, has_blocks, has_form, has_levels, has_parent, is_block, is_dnodes_key, is_entry, is_in_order, is_inner, is_leaf, is_object_key, keys_rise};
+ghost use Rattle.zs_plain.specs.BlockTests.{are_places_apart, does_share, fits_levels, fits_object, has_block, has_blocks, has_form, has_levels, has_parent, has_places, is_block, is_dnodes_key, is_entry, is_in_order, is_inner, is_leaf, is_object_key, keys_rise, share_sector};
 
 use crate::dataset::PlainDataset;
 use crate::sound::last_birth;
 use zs_ids::limits::OBJECTS;
-use zs_ids::{Bp, Key};
+use zs_ids::{Bp, Key, Place};
 
 /// Whether the key is below all of these.
 fn is_below_all(key: Key, entries: &[(Key, Bp)]) -> bool
@@ -29,11 +29,48 @@ fn keys_rise(entries: &[(Key, Bp)]) -> bool
     }
 }
 
-/// Whether the pointer has this size and level, and one place.
+/// Whether the blocks of that many sectors at two places share a sector.
+fn share_sector(sectors: u16, p: Place, q: Place) -> bool
+    ensures { result ≡ share_sector sectors p q }
+{
+    let size = u64::from(sectors);
+    let first = u64::from(p.sector);
+    let second = u64::from(q.sector);
+    p.vdev == q.vdev && (first < second + size && second < first + size)
+}
+
+/// Whether the block of that many sectors at a place shares none with those at the others.
+fn is_apart_from_all(sectors: u16, place: Place, others: &[Place]) -> bool
+    ensures { result ≡ list_all (λ q. not (share_sector sectors place q)) others.now }
+{
+    others.iter().all(|q| !share_sector(sectors, place, *q))
+}
+
+/// Whether the blocks of that many sectors at the places share no sector.
+fn are_places_apart(sectors: u16, places: &[Place]) -> bool
+    ensures { result ≡ are_places_apart sectors places.now }
+{
+    match places {
+        [] => true,
+        [first, rest @ ..] => {
+            is_apart_from_all(sectors, *first, rest) && are_places_apart(sectors, rest)
+        }
+    }
+}
+
+/// Whether the pointer uses one to three places, which lie apart.
+fn has_places(bp: Bp) -> bool
+    ensures { result ≡ has_places bp }
+{
+    let count = usize::from(bp.count);
+    1 <= count && (count <= 3 && are_places_apart(bp.sectors, &bp.places[..count]))
+}
+
+/// Whether the pointer has this size and level, and one to three places, which lie apart.
 fn has_form(bp: &Bp, sectors: u16, level: u8) -> bool
     ensures { result ≡ has_form bp.now sectors level }
 {
-    bp.sectors == sectors && (bp.level == level && bp.count == 1)
+    bp.sectors == sectors && (bp.level == level && has_places(*bp))
 }
 
 /// How many leaves a block at a level covers.

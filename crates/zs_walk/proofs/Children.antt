@@ -5,13 +5,12 @@ use Rattle.std.proofs.lemmas.Bool.{ltb-true, lt-ltb, le-ltb}
 use Rattle.std.proofs.lemmas.List.{length-map, length-append, append_assoc}
 use Rattle.zs_ids.specs.declared.dataset.DsId.{DsId}
 use Rattle.zs_ids.specs.Graph.{Has, Dataset, Graph}
-use Rattle.zs_ids.specs.GraphTree.{children_of, stands_on}
+use Rattle.zs_ids.specs.GraphTree.{children_of, stands_on, is_above}
 use Rattle.zs_ids.specs.GraphValid.{IsInIdOrder}
 use Rattle.zs_phys.specs.declared.todos.Todo.{Todo}
 use Rattle.zs_phys.specs.Turn.{entry}
-use Rattle.zs_cover.proofs.Lists.{from-map, from-find, some_is, some≢none}
-use Rattle.zs_cover.proofs.Graphs.{in_order-filter}
-use Rattle.zs_walk.specs.Asked.{is_above}
+use Rattle.zs_graph.proofs.Lists.{from-map, from-find, some_is, some≢none}
+use Rattle.zs_graph.proofs.Graphs.{in_order-filter}
 use mathlib.Core.Logic.{inl, inr}
 
 -- the ids rise

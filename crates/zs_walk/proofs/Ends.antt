@@ -3,12 +3,11 @@ use Rattle.std.proofs.Common.{◌≡◌, ◌++◌, ℕ, Bool, true, false, List,
 use Rattle.std.specs.Prelude.{map, unwrap_or, Option, Some, None, if◌then◌else◌}
 use Rattle.zs_ids.specs.declared.dataset.DsId.{DsId}
 use Rattle.zs_ids.specs.Graph.{Has, Dataset, Graph}
-use Rattle.zs_ids.specs.GraphTree.{is_id, dataset_at, created, children_of}
+use Rattle.zs_ids.specs.GraphTree.{is_id, dataset_at, created, children_of, taken_at}
 use Rattle.zs_phys.specs.declared.phys.Phys.{Phys}
 use Rattle.zs_phys.specs.declared.todos.Todo.{Todo}
 use Rattle.zs_phys.specs.Turn.{left, entry, queued_at_end}
-use Rattle.zs_cover.proofs.Lists.{from-find}
-use Rattle.zs_walk.specs.Asked.{taken_at}
+use Rattle.zs_graph.proofs.Lists.{from-find}
 use Rattle.zs_walk.specs.Walking.{AreHeadsUndated}
 
 -- when a dataset was created, from what a graph answers

@@ -1,4 +1,4 @@
--- The two small graphs are valid, so that a scan may walk over them.
+-- The small graphs are valid, so that a scan may walk over them.
 use Rattle.std.proofs.Common.{◌≡◌, ◌≢◌, ◌<◌, ◌≤◌, ◌+◌, ◌++◌, ℕ, true, false, List, [], ◌∷◌, refl, sym, ap, subst, ◌∙◌, arith}
 use Rattle.std.specs.Prelude.{Some, length}
 use Rattle.std.specs.List.Sorted.{IsStrictlySortedBy}
@@ -14,20 +14,20 @@ use Rattle.zs_phys.specs.declared.scope.Scope.{Scope}
 use Rattle.zs_phys.specs.declared.phys.Phys.{Phys}
 use Rattle.zs_phys.specs.Handlers.{handled, Event as events}
 use Rattle.zs_cover.specs.Laws.{IsCovered, MayStart, started}
-use Rattle.zs_cover.proofs.Lists.{has-left, has-right, some_is, some≢none}
+use Rattle.zs_graph.proofs.Lists.{has-left, has-right, some_is, some≢none}
 use Rattle.zs_cover.proofs.Starts.{start_keeps}
 use Rattle.zs_cover.proofs.Rests.{later_keeps}
-use Rattle.zs_cover.proofs.Clones.{fs_keeps}
+use Rattle.zs_cover.proofs.Clones.{fs_keeps, clone_keeps}
 use Rattle.zs_cover.proofs.Applies.{apply_keeps}
 use Rattle.zs_cover.proofs.Snapshots.{snapshot_keeps}
 use Rattle.zs_walk.specs.Walking.{MayWalk}
-use Rattle.zs_walk.specs.Examples.{block, one_record, head_id, snapshot_id, name, head_with, one_head, head_and_snapshot, room, scrub_up_to}
+use Rattle.zs_walk.specs.Examples.{block, one_record, head_id, snapshot_id, name, clone_id, clone_name, head_with, snapshot_with, one_head, head_and_snapshot, head_and_clone, room, scrub_up_to}
 use mathlib.Core.Logic.{inl, inr}
 
 -- a block has its form, its birth, and one piece, which lies in the room
 form_of : (sector sectors level : ℕ) → HasForm (block sector sectors level) sectors level
 unfolding block
-form_of sector sectors level = record { size = refl; height = refl; places = refl }
+form_of sector sectors level = record { size = refl; height = refl; some = omega arith; few = omega arith; apart = (λ q none. absurd none, tt) }
 
 born : (sector sectors level : ℕ) → (block sector sectors level).birth ≡ 3
 unfolding block
@@ -175,13 +175,15 @@ full_head : IsCovered room (one_head one_record) 3 3 (scrub_up_to 1) (started 0)
 unfolding IsStrictlySortedBy
 full_head =
     apply_keeps room (one_head []) 2 3 (scrub_up_to 1) (started 0) (λ p. true) (λ p. true) (head_with origin.id []) one_record (later_keeps room (one_head []) 2 2 3 (scrub_up_to 1) (started 0) (λ p. true) (λ p. true) empty_head (omega arith) (λ p live is. is)) (record {
-      here = inr (inl refl);
-      is_head = refl;
-      later = omega arith;
-      born = λ e h. each (λ x. x.1.birth ≡ 3) (born 296 8 1) (born 304 8 0) (born 312 1 0) e h;
-      in_order = ((refl, (refl, tt)), ((refl, tt), (tt, tt)));
-      blocks = three_blocks;
-      apart = head_apart;
+      put = record {
+        here = inr (inl refl);
+        is_head = refl;
+        later = omega arith;
+        born = λ e h. each (λ x. x.1.birth ≡ 3) (born 296 8 1) (born 304 8 0) (born 312 1 0) e h;
+        in_order = ((refl, (refl, tt)), ((refl, tt), (tt, tt)));
+        blocks = three_blocks;
+        apart = head_apart;
+      };
       within = head_within;
     }) (λ p live is. is)
 
@@ -221,3 +223,32 @@ with_snapshot_covered =
 pub snapshot_walks : (head snapshot : List (Key × Bp)) (scope : Scope) (s : Phys) → head ≡ one_record → snapshot ≡ one_record → scope ≡ scrub_up_to 6 → s ≡ started 0 → MayWalk (head_and_snapshot head snapshot) scope s
 snapshot_walks head snapshot scope s is also scope_is s_is =
     rw (is, also, scope_is, s_is) (walk_of (head_and_snapshot one_record one_record) 4 6 6 (omega arith) (omega arith) with_snapshot_covered.valid)
+
+-- a clone is made of the snapshot in 5, and a scrub of what is born before 6 begins
+below_three : (d : Dataset) → Has (head_and_snapshot one_record one_record) d → d.id.0 < 3
+below_three d (inl is) = let c : 0 ≡ d.id.0 = ap (λ (x : Dataset). x.id.0) is in omega (arith, c)
+below_three d (inr (inl is)) = let c : 1 ≡ d.id.0 = ap (λ (x : Dataset). x.id.0) is in omega (arith, c)
+below_three d (inr (inr (inl is))) = let c : 2 ≡ d.id.0 = ap (λ (x : Dataset). x.id.0) is in omega (arith, c)
+below_three d (inr (inr (inr none))) = absurd none
+
+clone_is_free : (d : Dataset) → Has (head_and_snapshot one_record one_record) d → d.head ≡ true → d.owner ≢ clone_name
+clone_is_free d (inl is) head owner = let n : 0 ≡ 2 = ap (λ (x : Dataset). x.owner.len) is ∙ ap (λ x. x.len) owner in omega (arith, n)
+clone_is_free d (inr (inl is)) head owner =
+    let n : 1 ≡ 2 = ap (λ (x : Dataset). x.owner.len) is ∙ ap (λ x. x.len) owner in omega (arith, n)
+clone_is_free d (inr (inr (inl is))) head owner =
+    let n : 1 ≡ 2 = ap (λ (x : Dataset). x.owner.len) is ∙ ap (λ x. x.len) owner in omega (arith, n)
+clone_is_free d (inr (inr (inr none))) head owner = absurd none
+
+with_clone_covered : IsCovered room (head_and_clone one_record one_record one_record) 5 5 (scrub_up_to 1) (handled (events.snapshot_taken head_id snapshot_id) (started 0)) (λ p. true)
+with_clone_covered =
+    clone_keeps room (head_and_snapshot one_record one_record) 4 5 (scrub_up_to 1) (handled (events.snapshot_taken head_id snapshot_id) (started 0)) (λ p. true) (λ p. true) (snapshot_with one_record) clone_id clone_name (later_keeps room (head_and_snapshot one_record one_record) 4 4 5 (scrub_up_to 1) (handled (events.snapshot_taken head_id snapshot_id) (started 0)) (λ p. true) (λ p. true) with_snapshot_covered (omega arith) (λ p live is. is)) (record {
+      here = inr (inr (inl refl));
+      is_snapshot = refl;
+      free = clone_is_free;
+      fresh = below_three;
+      room = omega arith;
+    }) (λ p live is. is)
+
+pub clone_walks : (head snapshot clone : List (Key × Bp)) (scope : Scope) (s : Phys) → head ≡ one_record → snapshot ≡ one_record → clone ≡ one_record → scope ≡ scrub_up_to 6 → s ≡ started 0 → MayWalk (head_and_clone head snapshot clone) scope s
+clone_walks head snapshot clone scope s is also clone_is scope_is s_is =
+    rw (is, also, clone_is, scope_is, s_is) (walk_of (head_and_clone one_record one_record one_record) 5 6 6 (omega arith) (omega arith) with_clone_covered.valid)

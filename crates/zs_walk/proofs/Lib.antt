@@ -4,7 +4,9 @@ pub mod Rooms
 pub mod Ends
 pub mod OneStep
 pub mod Rising
+pub mod Sums
 pub mod Passed
-pub mod Heads
+pub mod Descents
+pub mod Subtrees
 pub mod Left
 pub mod Examples

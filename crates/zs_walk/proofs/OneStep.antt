@@ -20,8 +20,8 @@ use Rattle.zs_phys.specs.declared.todos.Todo.{Todo}
 use Rattle.zs_phys.specs.Turn.{Comes, IsWalking, HasNoWork}
 use Rattle.zs_phys.specs.Turn.Comes.{rests, leaves, skips, enters, meets, ends}
 use Rattle.zs_phys.specs.Turn.HasNoWork.{no_scan, paused, none_left}
-use Rattle.zs_cover.proofs.Graphs.{dataset_is}
-use Rattle.zs_walk.specs.Asked.{entries_of, next_in}
+use Rattle.zs_graph.proofs.Graphs.{dataset_is}
+use Rattle.zs_ids.specs.GraphTree.{entries_of, next_in}
 use Rattle.zs_walk.specs.Walking.{MayWalk, is_walking, runs}
 use Rattle.zs_walk.specs.Laws.{OneStepLaw}
 

@@ -1,6 +1,6 @@
--- How many blocks of a pass are left: fewer behind each block that it meets.
-use Rattle.std.proofs.Common.{◌≡◌, ◌<◌, ◌≤◌, ◌+◌, Bool, true, false, cond, List, [], ◌∷◌, refl, sym, ap, subst, ◌∙◌, arith}
-use Rattle.std.specs.Prelude.{filter, length, IsTrue}
+-- The turns of the blocks that a pass has left: fewer behind each block that it meets.
+use Rattle.std.proofs.Common.{◌≡◌, ◌≤◌, ◌+◌, false, List, refl, sym, ap, ◌∙◌, arith}
+use Rattle.std.specs.Prelude.{IsTrue}
 use Rattle.std.specs.Cmp.{IsTotalOrder}
 use Rattle.std.specs.Ordering.{is_le, is_gt}
 use Rattle.std.specs.declared.cmp.Ordering.{Ordering}
@@ -11,43 +11,9 @@ use Rattle.zs_ids.specs.declared.key.Key.{Key}
 use Rattle.zs_ids.specs.declared.block.Bp.{Bp}
 use Rattle.zs_ids.specs.Key.{key_cmp}
 use Rattle.zs_ids.specs.Graph.{Has}
-use Rattle.zs_walk.specs.Left.{blocks_from}
+use Rattle.zs_walk.specs.Left.{weight, turns_from}
 use Rattle.zs_walk.proofs.Rising.{above_deeper}
-use mathlib.Core.Logic.{inl, inr}
-
--- of two tests the one that passes less keeps no more, and fewer where it does not pass one that the other does
-module _ {A : Type 0} (less more : A → Bool) where
-  pub no_more : (xs : List A) → ((x : A) → IsTrue (less x) → IsTrue (more x)) → length (filter less xs) ≤ length (filter more xs)
-  no_more [] within = omega arith
-  no_more (x ∷ xs) within = go (less x) refl (more x) refl (no_more xs within)
-    where
-      go : (a : Bool) → less x ≡ a → (b : Bool) → more x ≡ b → length (filter less xs) ≤ length (filter more xs) → length (cond a (x ∷ filter less xs) (filter less xs)) ≤ length (cond b (x ∷ filter more xs) (filter more xs))
-      go true is true at rest = omega (arith, rest)
-      go true is false at rest = absurd (true≢false (sym (within x is) ∙ at))
-      go false is true at rest = omega (arith, rest)
-      go false is false at rest = rest
-
-  -- and fewer
-  pub fewer : (xs : List A) (y : A) → ((x : A) → IsTrue (less x) → IsTrue (more x)) → Has xs y → less y ≡ false → IsTrue (more y) → length (filter less xs) < length (filter more xs)
-  fewer [] y within h off on = absurd h
-  fewer (x ∷ xs) y within (inl is) off on =
-      rw (subst (λ (z : A). less z ≡ false) (sym is) off, subst (λ (z : A). more z ≡ true) (sym is) on) (omega (arith, no_more xs within))
-  fewer (x ∷ xs) y within (inr h) off on = go (less x) refl (more x) refl (fewer xs y within h off on)
-    where
-      go : (a : Bool) → less x ≡ a → (b : Bool) → more x ≡ b → length (filter less xs) < length (filter more xs) → length (cond a (x ∷ filter less xs) (filter less xs)) < length (cond b (x ∷ filter more xs) (filter more xs))
-      go true is true at rest = omega (arith, rest)
-      go true is false at rest = absurd (true≢false (sym (within x is) ∙ at))
-      go false is true at rest = omega (arith, rest)
-      go false is false at rest = rest
-
--- a test keeps at most all
-pub at_most : {A : Type 0} (test : A → Bool) (xs : List A) → length (filter test xs) ≤ length xs
-at_most test [] = omega arith
-at_most test (x ∷ xs) = go (test x) (at_most test xs)
-  where
-    go : (b : Bool) → length (filter test xs) ≤ length xs → length (cond b (x ∷ filter test xs) (filter test xs)) ≤ length (x ∷ xs)
-    go true rest = omega (arith, rest)
-    go false rest = omega (arith, rest)
+use Rattle.zs_walk.proofs.Sums.{falls}
 
 -- the order of keys is a total one
 key_total : IsTotalOrder key_cmp
@@ -68,9 +34,13 @@ up_to Greater e = absurd (true≢false e)
 chain : (a b c : Key) → IsTrue (is_le (key_cmp a b)) → IsTrue (is_le (key_cmp b c)) → IsTrue (is_le (key_cmp a c))
 chain a b c t u = up_to (key_cmp a c) (upto key_total a b c (not_above (key_cmp a b) t) (not_above (key_cmp b c) u))
 
--- behind a block there are fewer blocks than from a key on that is not above it
-pub blocks_fall : (entries : List (Key × Bp)) (from : Key) (e : Key × Bp) → Has entries e → IsTrue (is_le (key_cmp from e.0)) → blocks_from entries (record e.0 { depth = e.0.depth + 1 }) < blocks_from entries from
-blocks_fall entries from e here at =
+-- a block takes a turn at least
+pub some_weight : (bp : Bp) → 1 ≤ weight bp
+some_weight bp = omega arith
+
+-- behind a block what is left is less by the block's turns than from a key on that is not above it
+pub turns_fall : (entries : List (Key × Bp)) (from : Key) (e : Key × Bp) → Has entries e → IsTrue (is_le (key_cmp from e.0)) → turns_from entries (record e.0 { depth = e.0.depth + 1 }) + weight e.1 ≤ turns_from entries from
+turns_fall entries from e here at =
     let below : Key = record e.0 { depth = e.0.depth + 1 } in
     let past : is_le (key_cmp below e.0) ≡ false = false_from_ne_true (is_le (key_cmp below e.0)) (λ t. let is : Less ≡ Equal = sym (above_deeper e.0 e.0 t) ∙ tied_itself key_total e.0 in cc) in
-    fewer (λ (f : Key × Bp). is_le (key_cmp below f.0)) (λ (f : Key × Bp). is_le (key_cmp from f.0)) entries e (λ f t. chain from e.0 f.0 at (ap is_le (above_deeper e.0 f.0 t))) here past at
+    falls (λ (f : Key × Bp). weight f.1) (λ (f : Key × Bp). is_le (key_cmp below f.0)) (λ (f : Key × Bp). is_le (key_cmp from f.0)) entries e (λ f h t. chain from e.0 f.0 at (ap is_le (above_deeper e.0 f.0 t))) here past at

@@ -19,7 +19,7 @@ use Rattle.zs_phys.specs.declared.step.Step.{Step}
 use Rattle.zs_phys.specs.declared.step.Step.TheVariants as steps
 use Rattle.zs_phys.specs.Turn.{Comes, behind}
 use Rattle.zs_phys.specs.Turn.Comes.{rests, leaves, skips, enters, meets, ends}
-use Rattle.zs_cover.proofs.Keys.{found_from}
+use Rattle.zs_graph.proofs.Keys.{found_from}
 use Rattle.zs_cover.proofs.States.{at_key}
 use Rattle.zs_walk.specs.Laws.{RisesLaw}
 

@@ -15,8 +15,8 @@ use Rattle.zs_phys.specs.declared.todos.Todo.{Todo}
 use Rattle.zs_phys.specs.Sound.{AreDistinct}
 use Rattle.zs_phys.specs.Turn.{Comes, advanced, put_by, queued_at_end}
 use Rattle.zs_cover.specs.Laws.{IsCovered}
-use Rattle.zs_cover.proofs.Lists.{has-filter, has-map}
-use Rattle.zs_cover.proofs.Graphs.{id_is, is_id-same}
+use Rattle.zs_graph.proofs.Lists.{has-filter, has-map}
+use Rattle.zs_graph.proofs.Graphs.{id_is, is_id-same}
 use Rattle.zs_cover.proofs.Rests.{later_keeps}
 use Rattle.zs_cover.proofs.Turns.{turn_keeps}
 use Rattle.zs_walk.specs.Walking.{MayWalk}

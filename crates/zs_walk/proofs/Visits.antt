@@ -6,7 +6,7 @@ use Rattle.zs_ids.specs.declared.block.Bp.{Bp}
 use Rattle.zs_ids.specs.declared.dataset.DsId.{DsId}
 use Rattle.zs_ids.specs.Blocks.{first_from}
 use Rattle.zs_ids.specs.Graph.{Has, Dataset, Graph}
-use Rattle.zs_ids.specs.GraphTree.{dataset_at}
+use Rattle.zs_ids.specs.GraphTree.{dataset_at, entries_of, next_in}
 use Rattle.zs_ids.specs.GraphValid.{IsBlock}
 use Rattle.zs_ids.specs.GraphValid.IsBlock.{root, dnodes, inner, leaf}
 use Rattle.zs_phys.specs.declared.scope.Scope.{Scope}
@@ -20,11 +20,10 @@ use Rattle.zs_phys.specs.declared.todos.Todo.{Todo}
 use Rattle.zs_phys.specs.Turn.{Comes, IsWalking, HasNoWork}
 use Rattle.zs_phys.specs.Turn.Comes.{rests, leaves, skips, enters, meets, ends}
 use Rattle.zs_phys.specs.Turn.HasNoWork.{no_scan, paused}
-use Rattle.zs_cover.proofs.Lists.{some_is, some≢none}
-use Rattle.zs_cover.proofs.Graphs.{dataset_is}
-use Rattle.zs_cover.proofs.Keys.{found_from}
+use Rattle.zs_graph.proofs.Lists.{some_is, some≢none}
+use Rattle.zs_graph.proofs.Graphs.{dataset_is}
+use Rattle.zs_graph.proofs.Keys.{found_from}
 use Rattle.zs_cover.proofs.States.{here-pending}
-use Rattle.zs_walk.specs.Asked.{entries_of, next_in}
 use Rattle.zs_walk.specs.Walking.{MayWalk, IsOfDataset, MeetsBlock, is_walking, runs}
 
 -- the first dataset of a queue, and the queue that has none
@@ -57,13 +56,13 @@ idles s e = go s.status refl s.paused refl e
     go Finished is b on t = no_scan (λ scans. let e : Finished ≡ Scanning = sym is ∙ scans in cc)
     go Canceled is b on t = no_scan (λ scans. let e : Canceled ≡ Scanning = sym is ∙ scans in cc)
 
--- a block of a dataset has a key right behind its own, and its pieces
+-- a block of a dataset has a key right behind its own, and one to three places
 block_is : (levels size : ℕ) (e : Key × Bp) → IsBlock levels size e → IsOfDataset e.0 e.1
 block_is levels size e block = elim block [
-  | root k f ↦ let d : e.0.depth ≡ 0 = ap (λ (x : Key). x.depth) k in record { shallow = omega (arith, d); places = f.places }
-  | dnodes j lt k f ↦ let d : e.0.depth ≡ 1 = ap (λ (x : Key). x.depth) k in record { shallow = omega (arith, d); places = f.places }
-  | inner l up below k f ↦ let d : e.0.depth + l ≡ 3 = k.depth in record { shallow = omega (arith, d); places = f.places }
-  | leaf some k f ↦ let d : e.0.depth + 0 ≡ 3 = k.depth in record { shallow = omega (arith, d); places = f.places }
+  | root k f ↦ let d : e.0.depth ≡ 0 = ap (λ (x : Key). x.depth) k in record { shallow = omega (arith, d); some = f.some; few = f.few }
+  | dnodes j lt k f ↦ let d : e.0.depth ≡ 1 = ap (λ (x : Key). x.depth) k in record { shallow = omega (arith, d); some = f.some; few = f.few }
+  | inner l up below k f ↦ let d : e.0.depth + l ≡ 3 = k.depth in record { shallow = omega (arith, d); some = f.some; few = f.few }
+  | leaf some k f ↦ let d : e.0.depth + 0 ≡ 3 = k.depth in record { shallow = omega (arith, d); some = f.some; few = f.few }
 ]
 
 module _ (g : Graph) (scope : Scope) (s : Phys) (may : MayWalk g scope s) where

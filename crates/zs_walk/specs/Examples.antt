@@ -1,4 +1,5 @@
--- Two small graphs, over which the tests walk: a head with one record, and the same head with a snapshot.
+-- Three small graphs, over which the tests walk: a head with one record, the same head with a snapshot, and these with a
+-- clone of the snapshot.
 use Rattle.std.specs.Prelude.{ℕ, true, false, List, [], ◌∷◌, Some, replicate}
 use Rattle.zs_ids.specs.declared.key.Key.{Key}
 use Rattle.zs_ids.specs.declared.block.Bp.{Bp}
@@ -41,6 +42,13 @@ snapshot_id = record { 0 = 2 }
 abbrev pub name : Name
 name = record EMPTY { len = 1 }
 
+-- those of the clone
+abbrev pub clone_id : DsId
+clone_id = record { 0 = 3 }
+
+abbrev pub clone_name : Name
+clone_name = record EMPTY { len = 2 }
+
 -- a head on a dataset, and a snapshot of it in 4
 abbrev pub head_with : DsId → List (Key × Bp) → Dataset
 head_with parent entries = record { id = head_id; head = true; owner = name; label = EMPTY; parent = Some parent; creation = 0; entries = entries }
@@ -48,12 +56,19 @@ head_with parent entries = record { id = head_id; head = true; owner = name; lab
 abbrev pub snapshot_with : List (Key × Bp) → Dataset
 snapshot_with entries = record { id = snapshot_id; head = false; owner = name; label = name; parent = Some ORIGIN; creation = 4; entries = entries }
 
--- a head, and a head with a snapshot
+-- a clone of the snapshot
+abbrev pub clone_with : List (Key × Bp) → Dataset
+clone_with entries = record { id = clone_id; head = true; owner = clone_name; label = EMPTY; parent = Some snapshot_id; creation = 0; entries = entries }
+
+-- a head, a head with a snapshot, and these with a clone
 abbrev pub one_head : List (Key × Bp) → Graph
 one_head entries = origin ∷ head_with ORIGIN entries ∷ []
 
 abbrev pub head_and_snapshot : List (Key × Bp) → List (Key × Bp) → Graph
 head_and_snapshot head snapshot = origin ∷ head_with snapshot_id head ∷ snapshot_with snapshot ∷ []
+
+abbrev pub head_and_clone : List (Key × Bp) → List (Key × Bp) → List (Key × Bp) → Graph
+head_and_clone head snapshot clone = origin ∷ head_with snapshot_id head ∷ snapshot_with snapshot ∷ clone_with clone ∷ []
 
 -- the room of a pool of one mirror of 512 sectors
 abbrev pub room : Room

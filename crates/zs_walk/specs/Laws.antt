@@ -1,5 +1,5 @@
--- The laws of the walk: one turn comes at most, and the blocks that a pass meets rise.
-use Rattle.std.specs.Prelude.{◌≡◌, IsTrue}
+-- The laws of the walk: one turn comes at most, the blocks that a pass meets rise, and each turn brings the end nearer.
+use Rattle.std.specs.Prelude.{◌≡◌, ◌≢◌, ◌<◌, IsTrue}
 use Rattle.std.specs.Ordering.{is_le}
 use Rattle.std.specs.declared.cmp.Ordering.TheVariants.{Less}
 use Rattle.zs_ids.specs.declared.key.Key.{Key}
@@ -14,6 +14,7 @@ use Rattle.zs_phys.specs.declared.step.Step.{Step}
 use Rattle.zs_phys.specs.declared.step.Step.TheVariants as steps
 use Rattle.zs_phys.specs.Turn.{Comes, advanced}
 use Rattle.zs_walk.specs.Walking.{MayWalk}
+use Rattle.zs_walk.specs.Left.{turns_left}
 
 -- in a state of a valid graph one turn comes at most
 abbrev pub OneStepLaw : Type 0
@@ -31,3 +32,9 @@ abbrev pub RisesLaw : Type 0
 RisesLaw =
     (g : Graph) (scope : Scope) (s t : Phys) (id : DsId) (from k : Key) (bp : Bp) → s.at ≡ ats.Dataset id from → Comes g scope s (steps.At k bp)
     → t ≡ advanced g scope s (steps.At k bp) → Rises g scope from k t
+
+-- in a state of a valid graph each turn that makes something leaves fewer turns
+abbrev pub LeftLaw : Type 0
+LeftLaw =
+    (g : Graph) (scope : Scope) (s : Phys) (step : Step) → MayWalk g scope s → Comes g scope s step → step ≢ steps.Nothing
+    → turns_left g (advanced g scope s step) < turns_left g s

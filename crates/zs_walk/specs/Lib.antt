@@ -1,5 +1,4 @@
-pub mod Asked
 pub mod Walking
+pub mod Left
 pub mod Laws
 pub mod Examples
-pub mod Left

@@ -3,7 +3,7 @@ use Rattle.std.specs.Prelude.{◌≡◌, ◌<◌, ◌≤◌, ◌&&◌, ℕ, Bool
 use Rattle.zs_ids.specs.declared.key.Key.{Key}
 use Rattle.zs_ids.specs.declared.block.Bp.{Bp}
 use Rattle.zs_ids.specs.Graph.{Has, Dataset, Graph}
-use Rattle.zs_ids.specs.GraphValid.{Room, Valid, copies}
+use Rattle.zs_ids.specs.GraphValid.{Room, Valid}
 use Rattle.zs_phys.specs.declared.scope.Scope.{Scope}
 use Rattle.zs_phys.specs.declared.phys.Phys.{Phys}
 use Rattle.zs_phys.specs.declared.phys.Status.{Status}
@@ -22,10 +22,11 @@ pub record MayWalk (g : Graph) (scope : Scope) (s : Phys) : Type 0 where
   pub valid : Valid room g n
   pub sound : Sound g h scope s
 
--- a block of a dataset: its pointer uses as many places as this version has, and there is a key right behind its own
+-- a block of a dataset: there is a key right behind its own, and its pointer uses one to three places
 pub record IsOfDataset (k : Key) (bp : Bp) : Type 0 where
   pub shallow : k.depth < 4
-  pub places : bp.count ≡ copies
+  pub some : 1 ≤ bp.count
+  pub few : bp.count ≤ 3
 
 -- the block that the turn meets, where it meets one, is a block of a dataset
 abbrev pub MeetsBlock : Step → Type 0

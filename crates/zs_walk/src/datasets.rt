@@ -1,8 +1,7 @@
 //! What the walk asks of the datasets of a pool.
 
 ghost use Rattle.std.specs.Prelude.{◌≡◌, find};
-ghost use Rattle.zs_ids.specs.GraphTree.{dataset_at, children_of};
-ghost use Rattle.zs_walk.specs.Asked.{next_in, taken_at, is_above};
+ghost use Rattle.zs_ids.specs.GraphTree.{dataset_at, children_of, next_in, taken_at, is_above};
 
 use zs_ids::{Bp, DsId, Key};
 

@@ -5,7 +5,8 @@
 //! Model: the datasets are the plain list that contracts speak of, in whatever form they are kept (`Datasets`); the
 //! state of the scan is the record of its fields.
 //! Promise: in a valid graph, and a state that belongs to it, `visit` answers the one turn that comes, and `advance`
-//! makes of the state exactly what that turn makes of it. Neither takes memory.
+//! makes of the state exactly what that turn makes of it. Neither takes memory. Each turn but the empty one leaves fewer
+//! turns (`specs/Left`), so that a walk comes to its end.
 //! Cost: `visit` asks for at most one block; `advance` asks for each child of a dataset whose pass ends, and else takes a
 //! few steps, but that it moves the queue up by one where its first dataset is taken out.
 //!

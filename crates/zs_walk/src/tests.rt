@@ -1,11 +1,12 @@
-//! Walks over two small graphs, with ample memory.
+//! Walks over three small graphs, with ample memory.
 
 ghost use Rattle.std.specs.Prelude.{◌≡◌, IfOk};
 ghost use Rattle.zs_cover.specs.Laws.{started};
-ghost use Rattle.zs_walk.specs.Examples.{block, head_and_snapshot, one_head, one_record, scrub_up_to};
+ghost use Rattle.zs_walk.specs.Examples.{block, head_and_clone, head_and_snapshot, one_head, one_record, scrub_up_to};
+ghost use Rattle.zs_walk.specs.Left.{turns_left};
 ghost use Rattle.zs_walk.specs.Walking.{MayWalk};
 
-use crate::laws::{one_step_law, rises_law};
+use crate::laws::{left_law, one_step_law, rises_law};
 use crate::{Datasets, advance, visit};
 use std::alloc::{AllocError, Global};
 use zs_flat::Flat;
@@ -16,6 +17,8 @@ use zs_ranges::TxgSet;
 const HEAD: DsId = DsId(1);
 
 const SNAPSHOT: DsId = DsId(2);
+
+const CLONE: DsId = DsId(3);
 
 const DNODES: Key = Key {
     object: 0,
@@ -112,6 +115,50 @@ impl Datasets for HeadAndSnapshot {
     }
 }
 
+/// The origin, a snapshot on it, taken in 4, and two heads on that.
+#[derive(Drop)]
+struct HeadAndClone {
+    head: Flat,
+    snapshot: Flat,
+    clone: Flat,
+}
+
+impl Datasets for HeadAndClone {
+    ghost use Rattle.zs_walk.specs.Examples.{head_and_clone};
+
+    ghost datasets = { λ g. head_and_clone (⟦<Flat as Blocks>⟧.entries g.head) (⟦<Flat as Blocks>⟧.entries g.snapshot) (⟦<Flat as Blocks>⟧.entries g.clone) };
+
+    fn next_block(&self, id: DsId, from: Key, above: u64) -> Option<(Key, Bp)> {
+        match id.0 {
+            1 => self.head.next_from(from, above),
+            2 => self.snapshot.next_from(from, above),
+            3 => self.clone.next_from(from, above),
+            _ => None,
+        }
+    }
+
+    fn creation(&self, id: DsId) -> Option<u64> {
+        match id.0 {
+            0 => Some(1),
+            2 => Some(4),
+            _ => None,
+        }
+    }
+
+    fn child_after(&self, id: DsId, after: Option<DsId>) -> Option<DsId> {
+        let last = after.unwrap_or(DsId::ORIGIN);
+        if id.0 == 0 && last.0 < 2 {
+            Some(SNAPSHOT)
+        } else if id.0 == 2 && last.0 < 1 {
+            Some(HEAD)
+        } else if id.0 == 2 && last.0 < 3 {
+            Some(CLONE)
+        } else {
+            None
+        }
+    }
+}
+
 /// A block at a sector, of that many sectors, born in 3.
 fn block(sector: u32, sectors: u16, level: u8) -> Bp
     ensures { result ≡ block sector sectors level }
@@ -181,6 +228,13 @@ fn is_walk<G: Datasets>(graph: &G, scope: &Scope, phys: &mut Phys, want: &[Step]
     true
 }
 
+/// How many turns are left at the start, over a head, its snapshot and a clone, of three blocks each.
+fn turns_at_start() -> u64
+    ensures { result ≡ turns_left (head_and_clone one_record one_record one_record) (started 0) }
+{
+    17
+}
+
 #[test]
 #[tactic(auto, using(crate::proofs::Examples::head_walks))]
 fn walks_a_head_in_seven_turns(rt: HostRuntime) -> Result<(), AllocError> {
@@ -231,7 +285,37 @@ fn walks_shared_blocks_once(rt: HostRuntime) -> Result<(), AllocError> {
 }
 
 #[test]
+#[tactic(auto, using(crate::proofs::Examples::clone_walks))]
+fn walks_a_clone_in_fewer_turns_than_are_left(rt: HostRuntime) -> Result<(), AllocError> {
+    let graph = HeadAndClone {
+        head: blocks(rt.alloc())?,
+        snapshot: blocks(rt.alloc())?,
+        clone: blocks(rt.alloc())?,
+    };
+    let scope = scrub(rt.alloc(), 6)?;
+    let mut phys = start(rt.alloc())?;
+    let turns = [
+        Step::Enter(DsId::ORIGIN, 0),
+        Step::End(DsId::ORIGIN),
+        Step::Enter(SNAPSHOT, 1),
+        Step::At(Key::ROOT, block(296, 8, 1)),
+        Step::At(DNODES, block(304, 8, 0)),
+        Step::At(RECORD, block(312, 1, 0)),
+        Step::End(SNAPSHOT),
+        Step::Enter(HEAD, 4),
+        Step::End(HEAD),
+        Step::Enter(CLONE, 4),
+        Step::End(CLONE),
+        Step::Nothing,
+    ];
+    assert!(rt; is_walk(&graph, &scope, &mut phys, &turns));
+    assert!(rt; turns_at_start() >= 11);
+    Ok(())
+}
+
+#[test]
 fn has_laws_to_call() {
     one_step_law();
     rises_law();
+    left_law();
 }

@@ -205,6 +205,19 @@ pub fn beside(
     Ok(g)
 }
 
+/// A filesystem of one record whose root lies at two places: at 296 and at this sector.
+pub fn doubled(alloc: Global, second: u32) -> Result<Vec<PlainDataset>, AllocError> {
+    let (k, mut root) = block(key(0, 0, 0, 0), 296, 3);
+    root.count = 2;
+    root.places[1].sector = second;
+    let dnodes = block(key(0, 0, 0, 1), 304, 3);
+    let record = block(key(1, 1, 0, 3), 312, 3);
+    let mut g = Vec::new(alloc);
+    g.push(origin(alloc))?;
+    g.push(dataset(alloc, 1, b'a', 0, None, &[(k, root), dnodes, record])?)?;
+    Ok(g)
+}
+
 /// A filesystem that lacks the block of dnodes above its record.
 pub fn without_dnodes(alloc: Global) -> Result<Vec<PlainDataset>, AllocError> {
     let root = block(key(0, 0, 0, 0), 296, 3);

@@ -1,7 +1,8 @@
 //! Graphs that are valid, and graphs that are not.
 
 use super::graphs::{
-    beside, head_on_head, one_filesystem, rewritten, unshared, without_dnodes, young_record,
+    beside, doubled, head_on_head, one_filesystem, rewritten, unshared, without_dnodes,
+    young_record,
 };
 use super::room;
 use crate::blocks::{has_blocks_in_order, shares};
@@ -16,6 +17,29 @@ fn blocks_that_touch_lie_apart(rt: HostRuntime) -> Result<(), AllocError> {
     assert!(rt; are_apart(&g) && is_valid(alloc, &room(alloc, 6)?, &g, 3)?);
     let met = beside(alloc, 311, 321, 329)?;
     assert!(rt; !are_apart(&met) && !is_valid(alloc, &room(alloc, 6)?, &met, 3)?);
+    Ok(())
+}
+
+/// A block at two places, each of which is a piece of its own; they may touch and may not meet.
+#[test]
+fn a_block_may_have_two_places(rt: HostRuntime) -> Result<(), AllocError> {
+    let alloc = rt.alloc();
+    let beside = doubled(alloc, 313)?;
+    assert!(rt; is_valid(alloc, &room(alloc, 4)?, &beside, 3)?);
+    assert!(rt; !is_valid(alloc, &room(alloc, 3)?, &beside, 3)?);
+    let touching = doubled(alloc, 288)?;
+    assert!(rt; touching.iter().all(|d| has_blocks_in_order(d, 3)));
+    Ok(())
+}
+
+/// The places of one block share no sector.
+#[test]
+fn the_places_of_a_block_lie_apart(rt: HostRuntime) -> Result<(), AllocError> {
+    let alloc = rt.alloc();
+    let met = doubled(alloc, 289)?;
+    assert!(rt; are_apart(&met) && !met.iter().all(|d| has_blocks_in_order(d, 3)));
+    let twice = doubled(alloc, 296)?;
+    assert!(rt; are_apart(&twice) && !is_valid(alloc, &room(alloc, 4)?, &twice, 3)?);
     Ok(())
 }
 

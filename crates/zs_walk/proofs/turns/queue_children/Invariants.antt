@@ -1,6 +1,5 @@
 use Rattle.std.specs.Prelude.{filter, length}
-use Rattle.zs_ids.specs.GraphTree.{children_of}
-use Rattle.zs_walk.specs.Asked.{is_above}
+use Rattle.zs_ids.specs.GraphTree.{children_of, is_above}
 use Rattle.zs_walk.proofs.Children.{IsQueued}
 use Rattle.zs_walk.proofs.turns.queue_children.Given as goal
 
