@@ -17,7 +17,8 @@ use Rattle.zs_script.specs.declared.reply.Reply.TheVariants as reply
 use Rattle.zs_core.specs.declared.parts.Head.{Head}
 use Rattle.zs_core.specs.declared.parts.Closed.{Closed}
 use Rattle.zs_core.specs.declared.present.Present.TheInside.{Inside}
-use Rattle.zs_machine.specs.Machine.{PoolState, Txg, closed_at, is_named, dataset_named, has_object, record_sectors, sectors_from}
+use Rattle.zs_machine.specs.Machine.{PoolState, Txg, closed_at, has_object, record_sectors, sectors_from}
+use Rattle.zs_ids.specs.GraphTree.{is_named, dataset_named}
 use Rattle.zs_machine.specs.Replies.{make_refusal, write_refusal}
 use Rattle.zs_machine.specs.Steps.{WriteStep}
 use Rattle.zs_core.specs.Placed.{staged_again}

@@ -74,13 +74,14 @@ module _ (size : ℕ → ℕ) (id : DsId) (name : Name) (n t : ℕ) (entries cha
         formed = subst (λ (k : Key). IsFormed size k c.1.sectors) (sym is.key) (subst (λ (s : ℕ). IsFormed size (r.0).0.1 s) (sym is.sectors) (are_staged.formed r.0 r.1));
         height = is.height;
         single = is.single;
+        unused = is.unused;
         born = omega (arith, born);
       }
 
   whole_after : (e : Key × Bp) → Has after e → IsWhole size t e
   whole_after e h = elim (now e h) [
     | inl new ↦ whole_change e new
-    | inr old ↦ (let w = formed.each e old.0 in let born : e.1.birth ≤ n = w.born in record { formed = w.formed; height = w.height; single = w.single; born = omega (arith, born, earlier) })
+    | inr old ↦ (let w = formed.each e old.0 in let born : e.1.birth ≤ n = w.born in record { formed = w.formed; height = w.height; single = w.single; unused = w.unused; born = omega (arith, born, earlier) })
   ]
 
   change_at : (c : Key × Bp) (k : Key) (birth : ℕ) → Has changes c → c.0 ≡ k → birth ≤ t → HasAt after k birth
@@ -214,13 +215,15 @@ module _ (size : ℕ → ℕ) (id : DsId) (name : Name) (n t : ℕ) (entries cha
     may_apply blocks above later enough =
         let is : applied (headed id name entries) (head_of id name entries) changes ≡ headed id name after = applied_is id name entries changes above in
         record {
-          here = inr (inl refl);
-          is_head = refl;
-          later = later;
-          born = λ e h. (are.from e h).2.born;
-          in_order = are.in_order;
-          blocks = subst (λ (es : List (Key × Bp)). HasBlocks (head_of id name es) t) (sym (with_is entries changes)) (has_blocks size t id name after formed_after);
-          apart = subst AreApart (sym is) (are_apart id name after apart_after);
+          put = record {
+            here = inr (inl refl);
+            is_head = refl;
+            later = later;
+            born = λ e h. (are.from e h).2.born;
+            in_order = are.in_order;
+            blocks = subst (λ (es : List (Key × Bp)). HasBlocks (head_of id name es) t) (sym (with_is entries changes)) (has_blocks size t id name after formed_after);
+            apart = subst AreApart (sym is) (are_apart id name after apart_after);
+          };
           within = subst (λ (g : Graph). IsWithin (room_of start end blocks) g) (sym is) (is_within size t start next end blocks id name after formed_after placed.in_space live_after enough);
         }
 

@@ -1,5 +1,5 @@
 -- The blocks that are staged for the head may be applied to it, and what is true of the head stays.
-use Rattle.std.specs.Prelude.{◌≡◌, ◌≢◌, ◌⊎◌, ◌<◌, ◌==◌, ℕ, Bool, true, false, cond, List, [], ◌∷◌, map, Option, refl, if◌then◌else◌}
+use Rattle.std.specs.Prelude.{◌≡◌, ◌≢◌, ◌⊎◌, ◌<◌, ◌==◌, ℕ, Bool, true, false, cond, List, [], ◌∷◌, drop, map, Option, refl, if◌then◌else◌}
 use Rattle.std.specs.List.{AllByRecursion}
 use Rattle.std.specs.Ordering.{is_lt}
 use Rattle.std.specs.declared.cmp.Ordering.TheVariants.{Less, Equal}
@@ -12,22 +12,23 @@ use Rattle.zs_scan.specs.Walks.{item_of}
 use Rattle.zs_ids.specs.declared.key.Key.{Key}
 use Rattle.zs_ids.specs.declared.block.Bp.{Bp}
 use Rattle.zs_ids.specs.declared.block.Piece.{Piece}
+use Rattle.zs_ids.specs.declared.block.Place.{Place}
 use Rattle.zs_ids.specs.declared.dataset.DsId.{DsId}
 use Rattle.zs_ids.specs.declared.dataset.Name.{Name}
 use Rattle.zs_ids.specs.declared.dataset.TheConstants.DsId.{ORIGIN}
 use Rattle.zs_ids.specs.Key.{key_cmp}
-use Rattle.zs_ids.specs.Blocks.{bp_at, replaced, IsInKeyOrder}
+use Rattle.zs_ids.specs.Blocks.{bp_at, entries_with, replaced, IsInKeyOrder}
 use Rattle.zs_ids.specs.Graph.{Has, pieces_of}
 use Rattle.zs_ids.specs.GraphTree.{is_id}
 use Rattle.zs_ids.specs.GraphValid.{origin}
-use Rattle.zs_ids.specs.GraphChange.{applied, entries_with, holding}
+use Rattle.zs_ids.specs.GraphChange.{applied, holding}
 use Rattle.zs_txg.specs.declared.staged.Staging.{Staging}
 use Rattle.zs_txg.specs.declared.staged.StagedEntry.{StagedEntry}
 use Rattle.zs_txg.specs.Txg.{Slot, staged_for, entry_of, entries_for}
 use Rattle.zs_txg.proofs.Order.{keys_rise}
 use Rattle.zs_txg.proofs.Entries.{sorted-insert_entry}
 use Rattle.zs_txg.proofs.Slots.{same_slot, key_total}
-use Rattle.zs_objset.specs.Staged.{pointers_of, block_of, level_of, over}
+use Rattle.zs_objset.specs.Staged.{pointers_of, block_of, level_of, no_place, over}
 use Rattle.zs_machine.specs.Steps.{all_replaced, AreChanges}
 use Rattle.zs_core.specs.Placed.{head_of, headed, AreStaged}
 use Rattle.zs_core.proofs.Inserting.{from_put, put_new, put_old}
@@ -95,6 +96,7 @@ pub record IsChangeOf (t : ℕ) (e : Slot × Staging) (c : Key × Bp) : Type 0 w
   pub sectors : c.1.sectors ≡ e.1.sectors
   pub height : c.1.level ≡ level_of c.0
   pub single : c.1.count ≡ 1
+  pub unused : (p : Place) → Has (drop 1 c.1.places) p → p ≡ no_place
   pub born : c.1.birth ≡ t
   pub piece : (p : Piece) → Has (pieces_of c.1) p → p.place ≡ e.1.place
   pub first : Has (pieces_of c.1) (item_of c.1).piece
@@ -103,7 +105,7 @@ abbrev made : (Key → Option Bp) → ℕ → List (Slot × Staging) → List (K
 made get t staged = pointers_of (map (block_of get t) (map entry_of staged))
 
 change_of : (get : Key → Option Bp) (t : ℕ) (e : Slot × Staging) → IsChangeOf t e ((block_of get t (entry_of e)).key, (block_of get t (entry_of e)).bp)
-change_of get t e = record { key = refl; sectors = refl; height = refl; single = refl; born = refl; first = inl refl; piece = λ p h. elim h [ inl is ↦ ap (λ (q : Piece). q.place) (sym is) | inr none ↦ absurd none ] }
+change_of get t e = record { key = refl; sectors = refl; height = refl; single = refl; unused = λ p h. elim h [ inl is ↦ sym is | inr more ↦ elim more [ inl is ↦ sym is | inr none ↦ absurd none ] ]; born = refl; first = inl refl; piece = λ p h. elim h [ inl is ↦ ap (λ (q : Piece). q.place) (sym is) | inr none ↦ absurd none ] }
 
 from_made : (get : Key → Option Bp) (t : ℕ) (staged : List (Slot × Staging)) (c : Key × Bp) → Has (made get t staged) c → (e : Slot × Staging) × Has staged e × IsChangeOf t e c
 from_made get t [] c h = absurd h

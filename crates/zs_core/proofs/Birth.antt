@@ -19,14 +19,13 @@ use Rattle.zs_ids.specs.declared.block.Place.{Place}
 use Rattle.zs_ids.specs.declared.dataset.DsId.{DsId}
 use Rattle.zs_ids.specs.declared.dataset.Name.{Name}
 use Rattle.zs_ids.specs.Blocks.{IsInKeyOrder}
-use Rattle.zs_ids.specs.Graph.{Graph, Has, pieces_of, IsLive}
+use Rattle.zs_ids.specs.Graph.{Graph, Has, pieces_of, IsLive, IsOfBlock}
 use Rattle.zs_ids.specs.Piece.{piece_cmp}
 use Rattle.zs_queue.specs.Order.{piece_total, equal_pieces}
 use Rattle.zs_txg.specs.declared.staged.Staging.{Staging}
 use Rattle.zs_txg.specs.Txg.{Slot, staged_for}
 use Rattle.zs_scan.specs.View.{is_same, pieces_in, has_item}
 use Rattle.zs_scan.specs.Walks.{item_of}
-use Rattle.zs_scan.specs.Covered.{IsOfBlock}
 use Rattle.zs_scan.proofs.Pieces.{same_itself}
 use Rattle.zs_core.specs.declared.parts.Head.{Head}
 use Rattle.zs_machine.specs.Steps.{all_replaced, AreChanges}

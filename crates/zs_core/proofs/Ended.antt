@@ -9,6 +9,8 @@ use Rattle.zs_ids.specs.declared.block.Item.{Item}
 use Rattle.zs_ids.specs.Graph.{Graph, Has}
 use Rattle.zs_ids.specs.GraphValid.{Room}
 use Rattle.zs_phys.specs.declared.phys.Phys.{Phys}
+use Rattle.zs_phys.specs.Sound.{EndsBy}
+use Rattle.zs_phys.specs.Sound.EndsBy.{past, started, canceled}
 use Rattle.zs_walk.specs.Walking.{runs}
 use Rattle.zs_scan.specs.View.{ScanView}
 use Rattle.zs_scan.specs.Covered.{IsScanOf}
@@ -65,6 +67,15 @@ ended_width old new saved saved_now false ends = ap (λ (v : ScanView). v.scope.
 pub ended_if_complete : (old new : ScanView) (saved saved_now : ℕ) (b : Bool) → EndsWith old saved b new saved_now → EndsIfComplete old new
 ended_if_complete old new saved saved_now true ends = inl (ends.complete.0 refl, (ends.done refl).0)
 ended_if_complete old new saved saved_now false ends = inr (λ complete. true≢false (sym (ends.complete.1 complete)), (ends.rest refl).0)
+
+-- the scope of a scan ends by the transaction group after the one whose tasks come next
+pub ends_by : (room : Room) (g : Graph) (n t : ℕ) (v : ScanView) → IsScanOf room g n t v → v.scope.max ≤ t + 1
+ends_by room g n t v scan = go scan.covered.sound.ends
+  where
+    go : EndsBy t v.scope v.run → v.scope.max ≤ t + 1
+    go (past by) = omega (arith, by)
+    go (started at by todo) = by
+    go (canceled at by status) = by
 
 -- a scan of the datasets of t is one where the tasks of the next transaction group come next
 pub next_scanned : (room : Room) (g : Graph) (t : ℕ) (v : ScanView) → 1 ≤ t → IsScanOf room g t t v → IsScanOf room g (born_by t) (t + 1) v

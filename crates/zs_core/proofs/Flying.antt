@@ -10,7 +10,7 @@ use Rattle.zs_scan.specs.declared.batch.Batch.{Batch}
 use Rattle.zs_ids.specs.declared.block.Item.{Item}
 use Rattle.zs_scan.specs.View.{ScanView, pieces_in}
 use Rattle.zs_scan.specs.Steps.{Taken, AreOf, IsVerdict, Judged}
-use Rattle.zs_cover.proofs.Lists.{has-map, from-filter}
+use Rattle.zs_graph.proofs.Lists.{has-map, from-filter}
 use Rattle.zs_machine.specs.declared.event.Event.{Event}
 use Rattle.zs_machine.specs.declared.event.Step.{Step}
 use Rattle.zs_machine.specs.declared.event.Step.TheVariants as step

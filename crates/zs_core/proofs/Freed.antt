@@ -8,7 +8,7 @@ use Rattle.zs_ids.specs.declared.block.Piece.{Piece}
 use Rattle.zs_ids.specs.declared.dataset.DsId.{DsId}
 use Rattle.zs_ids.specs.declared.dataset.Name.{Name}
 use Rattle.zs_ids.specs.Key.{key_cmp}
-use Rattle.zs_ids.specs.Graph.{Has, pieces_of, IsLive}
+use Rattle.zs_ids.specs.Graph.{Has, pieces_of, IsLive, IsOfBlock}
 use Rattle.zs_ledger.specs.Kept.{has_piece}
 use Rattle.zs_txg.specs.declared.staged.Staging.{Staging}
 use Rattle.zs_txg.specs.Txg.{Slot, staged_for}
@@ -17,7 +17,7 @@ use Rattle.zs_cover.specs.Laws.{IsCovered, StaysDone}
 use Rattle.zs_scan.specs.declared.batch.Batch.{Batch}
 use Rattle.zs_scan.specs.View.{Mark, ScanView, mark_of, is_done}
 use Rattle.zs_scan.specs.Kept.{IsOrderly}
-use Rattle.zs_scan.specs.Covered.{IsOfBlock, AreLive, IsScanOf}
+use Rattle.zs_scan.specs.Covered.{AreLive, IsScanOf}
 use Rattle.zs_machine.specs.Steps.{all_replaced, AreChanges}
 use Rattle.zs_core.specs.Placed.{head_of, headed, room_of, AreFormed, AreStaged, ArePlaced}
 use Rattle.zs_core.specs.Freeing.{first_piece, replaced_by, is_one_of, FreesAll}
@@ -124,7 +124,6 @@ module _ (size : ℕ → ℕ) (id : DsId) (name : Name) (n t : ℕ) (entries cha
       let same = sym frees.rest in
       record {
         covered = subst (λ (v : ScanView). IsCovered (room_of start end blocks) (headed id name after) t t v.scope v.run (is_done new)) same covered;
-        range = subst (λ (v : ScanView). v.scope.max ≤ t) same scan.range;
         live = live_still old new orderly scan.live frees;
         in_room = λ b i h k. scan.in_room b i (subst (λ (l : List Batch). Has l b) (ap (λ (v : ScanView). v.flight) frees.rest) h) k;
       }

@@ -12,7 +12,7 @@ use Rattle.zs_ids.specs.declared.block.Place.{Place}
 use Rattle.zs_ids.specs.declared.block.Item.{Item}
 use Rattle.zs_ids.specs.Blocks.{bp_at}
 use Rattle.zs_ids.specs.Graph.{Has}
-use Rattle.zs_cover.proofs.Lists.{from-filter}
+use Rattle.zs_graph.proofs.Lists.{from-filter}
 use Rattle.zs_scan.specs.View.{Mark, ScanView, is_same, mark_of}
 use Rattle.zs_scan.specs.Steps.{Freed}
 use Rattle.zs_scan.specs.Walks.{item_of}

@@ -1,18 +1,18 @@
 -- A scan stays that of the datasets where a filesystem is made, where they may have more blocks, and at a later
 -- transaction group.
 use Rattle.std.specs.Prelude.{◌<◌, ◌≤◌, ℕ, List, [], None}
-use Rattle.std.proofs.Common.{sym, subst, inl, inr, arith}
+use Rattle.std.proofs.Common.{sym, subst, inl, inr}
 use Rattle.zs_ids.specs.declared.key.Key.{Key}
 use Rattle.zs_ids.specs.declared.block.Bp.{Bp}
 use Rattle.zs_ids.specs.declared.block.Piece.{Piece}
 use Rattle.zs_ids.specs.declared.dataset.DsId.{DsId}
 use Rattle.zs_ids.specs.declared.dataset.Name.{Name}
-use Rattle.zs_ids.specs.Graph.{Dataset, Graph, Has}
+use Rattle.zs_ids.specs.Graph.{Dataset, Graph, Has, IsOfBlock}
 use Rattle.zs_ids.specs.GraphValid.{Room}
 use Rattle.zs_cover.proofs.Clones.{fs_keeps}
 use Rattle.zs_scan.specs.View.{ScanView, is_done}
 use Rattle.zs_ids.specs.declared.block.Item.{Item}
-use Rattle.zs_scan.specs.Covered.{IsOfBlock, IsScanOf, IsInRoom}
+use Rattle.zs_scan.specs.Covered.{IsScanOf, IsInRoom}
 use Rattle.zs_core.specs.Placed.{headed, room_of}
 use Rattle.zs_core.specs.View.{graph_of}
 use Rattle.zs_core.proofs.Blank.{blank, may_fs}
@@ -30,7 +30,6 @@ none_of piece sectors sum b = go b.holder b.at b.is_dataset b.is_entry
 pub fs_scanned : (start end blocks n h : ℕ) (id : DsId) (name : Name) (v : ScanView) → 0 < id.0 → IsScanOf (room_of start end blocks) (graph_of None) n h v → IsScanOf (room_of start end blocks) (headed id name []) h h v
 fs_scanned start end blocks n h id name v above scan = record {
   covered = fs_keeps (room_of start end blocks) blank n h v.scope v.run (is_done v) (is_done v) id name scan.covered (may_fs id name above) (λ p live done. done);
-  range = scan.range;
   live = record {
     waiting = λ e i. absurd (none_of e.1.piece e.1.sectors e.1.sum ((scan.live).waiting e i));
     flying = λ b i here is_item flies. absurd (none_of i.piece i.sectors i.sum ((scan.live).flying b i here is_item flies));
@@ -45,10 +44,9 @@ in_other room item blocks h = record { lies = record { mirror = (h.lies).mirror;
 -- a scan of datasets in a room is one in a room for more blocks
 pub wider_scanned : (room : Room) (g : Graph) (n h : ℕ) (v : ScanView) (blocks : ℕ) → room.blocks ≤ blocks → IsScanOf room g n h v → IsScanOf (record room { blocks = blocks }) g n h v
 wider_scanned room g n h v blocks more scan =
-    record { covered = covered_more room g n h v.scope v.run (is_done v) blocks scan.covered more; range = scan.range; live = scan.live; in_room = λ b i h k. in_other room i blocks (scan.in_room b i h k) }
+    record { covered = covered_more room g n h v.scope v.run (is_done v) blocks scan.covered more; live = scan.live; in_room = λ b i h k. in_other room i blocks (scan.in_room b i h k) }
 
 -- a scan of datasets before the tasks of a transaction group is one before those of a later one
 pub later_scanned : (room : Room) (g : Graph) (n h k : ℕ) (v : ScanView) → h ≤ k → IsScanOf room g n h v → IsScanOf room g n k v
 later_scanned room g n h k v later scan =
-    let range : v.scope.max ≤ h = scan.range in
-    record { covered = covered_later room g n h k v.scope v.run (is_done v) scan.covered later; range = omega (arith, range, later); live = scan.live; in_room = scan.in_room }
+    record { covered = covered_later room g n h k v.scope v.run (is_done v) scan.covered later; live = scan.live; in_room = scan.in_room }

@@ -1,6 +1,7 @@
 pub mod Inserting
 pub mod Blank
 pub mod Wholes
+pub mod OnePlace
 pub mod Applying
 pub mod Applied
 pub mod Placing

@@ -137,7 +137,7 @@ pub resized_entries : (size : ℕ → ℕ) (object sectors n : ℕ) (entries : L
 resized_entries size object sectors n entries is_size none formed = record {
   sizes = λ m. by m (m == object);
   in_order = formed.in_order;
-  each = λ e h. let w = formed.each e h in record { formed = resized_formed size object sectors e.0 e.1.sectors (at_none key_cmp key_total same_key entries (record_key object 0) e none h) w.formed; height = w.height; single = w.single; born = w.born };
+  each = λ e h. let w = formed.each e h in record { formed = resized_formed size object sectors e.0 e.1.sectors (at_none key_cmp key_total same_key entries (record_key object 0) e none h) w.formed; height = w.height; single = w.single; unused = w.unused; born = w.born };
   parents = formed.parents;
 }
   where

@@ -6,7 +6,8 @@ use Rattle.zs_script.specs.declared.reply.Reply.TheVariants as reply
 use Rattle.zs_machine.specs.declared.event.ReadPlan.{ReadPlan}
 use Rattle.zs_core.specs.declared.parts.Head.{Head}
 use Rattle.zs_machine.specs.declared.event.OpenRead.{OpenRead}
-use Rattle.zs_machine.specs.Machine.{PoolState, is_named, dataset_named}
+use Rattle.zs_machine.specs.Machine.{PoolState}
+use Rattle.zs_ids.specs.GraphTree.{is_named, dataset_named}
 use Rattle.zs_machine.specs.Replies.{read_refusal}
 use Rattle.zs_machine.specs.Steps.{ReadBeginStep, plan_in}
 use Rattle.zs_core.specs.View.{graph_of, dataset_of}

@@ -7,9 +7,9 @@ use Rattle.zs_ids.specs.declared.block.Piece.{Piece}
 use Rattle.zs_ids.specs.declared.dataset.DsName.{DsName}
 use Rattle.zs_ids.specs.declared.key.Key.{Key}
 use Rattle.zs_ids.specs.Blocks.{bp_at}
-use Rattle.zs_ids.specs.Graph.{Dataset, Has, pieces_of}
+use Rattle.zs_ids.specs.Graph.{Dataset, Has, pieces_of, IsOfBlock}
 use Rattle.zs_ids.specs.Key.{key_cmp}
-use Rattle.zs_scan.specs.Covered.{IsOfBlock, IsInRoom, IsScanOf}
+use Rattle.zs_scan.specs.Covered.{IsInRoom, IsScanOf}
 use Rattle.zs_scan.specs.Walks.{item_of}
 use Rattle.zs_scan.proofs.InRoom.{block_in_room}
 use Rattle.zs_script.specs.declared.refusal.Refusal.{Refusal}
@@ -21,7 +21,8 @@ use Rattle.zs_machine.specs.declared.event.ReadPlan.{ReadPlan}
 use Rattle.zs_core.specs.declared.parts.Head.{Head}
 use Rattle.zs_core.specs.declared.present.Present.TheInside.{Inside}
 use Rattle.zs_core.specs.Kept.{Facts, IsHeadKept, staged_in, born_by}
-use Rattle.zs_machine.specs.Machine.{PoolState, dataset_named}
+use Rattle.zs_machine.specs.Machine.{PoolState}
+use Rattle.zs_ids.specs.GraphTree.{dataset_named}
 use Rattle.zs_core.specs.Placed.{room_of}
 use Rattle.zs_core.specs.Reading.{IsPlanInRoom, IsPlacedAt}
 use Rattle.zs_machine.specs.Replies.{read_refusal}

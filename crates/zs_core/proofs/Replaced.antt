@@ -11,7 +11,7 @@ use Rattle.zs_ids.specs.Key.{key_cmp}
 use Rattle.zs_ids.specs.Blocks.{bp_at, IsInKeyOrder}
 use Rattle.zs_ids.specs.Graph.{Has, pieces_of}
 use Rattle.zs_txg.proofs.Slots.{key_total}
-use Rattle.zs_cover.proofs.Lists.{has-left, has-right, from-append}
+use Rattle.zs_graph.proofs.Lists.{has-left, has-right, from-append}
 use Rattle.zs_scan.specs.View.{is_same}
 use Rattle.zs_scan.specs.Walks.{first_place}
 use Rattle.zs_scan.proofs.Pieces.{same_is, same_itself}

@@ -43,7 +43,6 @@ none_covers g old new frees covers = record {
 origin_put : (start end blocks n t : ℕ) (old new : ScanView) → 1 ≤ t → FreesAll [] old new → IsScanOf (room_of start end blocks) (graph_of None) n t old → IsScanOf (room_of start end blocks) (graph_of None) t t new
 origin_put start end blocks n t old new since frees scan = record {
   covered = subst (λ (v : ScanView). IsCovered (room_of start end blocks) (graph_of None) t t v.scope v.run (is_done new)) (sym frees.rest) covered;
-  range = subst (λ (v : ScanView). v.scope.max ≤ t) (sym frees.rest) scan.range;
   live = none_live (graph_of None) old new frees scan.live;
   in_room = λ b i h k. scan.in_room b i (subst (λ (l : List Batch). Has l b) (ap (λ (v : ScanView). v.flight) frees.rest) h) k;
 }

@@ -11,6 +11,7 @@ use Rattle.zs_ids.specs.Key.{root_key, dnode_key, record_key}
 use Rattle.zs_ids.specs.Graph.{Dataset, Has, pieces_of, IsLive}
 use Rattle.zs_ids.specs.GraphValid.{IsBlock, IsObjectKey, HasForm, HasBlocks, HasAtMost, IsWithin, LiesIn, AreApart, Overlap}
 use Rattle.zs_ids.specs.GraphValid.IsBlock.{root as root_block, dnodes as dnodes_block, leaf as leaf_block}
+use Rattle.zs_graph.proofs.OnePlaces.{one_apart}
 use Rattle.zs_objset.specs.Staged.{level_of}
 use Rattle.zs_core.specs.Placed.{head_of, headed, room_of, IsWhole, AreFormed, LiesBetween}
 use Rattle.zs_core.specs.Placed.IsFormed.{root, dnodes, leaf}
@@ -26,7 +27,7 @@ dnode_is : (object : ℕ) → dnode_key object ≡ dnode_key (32 * (object / 32)
 dnode_is object = ap (λ (n : ℕ). let k : Key = record { object = n; rank = 0; leaf = 0; depth = 1 } in k) (thirty_two object)
 
 form : (size : ℕ → ℕ) (n : ℕ) (e : Key × Bp) (sectors : ℕ) (k : Key) → IsWhole size n e → e.1.sectors ≡ sectors → e.0 ≡ k → HasForm e.1 sectors (level_of k)
-form size n e sectors k w is key = record { size = is; height = w.height ∙ ap level_of key; places = w.single }
+form size n e sectors k w is key = record { size = is; height = w.height ∙ ap level_of key; some = let one : e.1.count ≡ 1 = w.single in omega (arith, one); few = let one : e.1.count ≡ 1 = w.single in omega (arith, one); apart = one_apart e.1.sectors e.1.count e.1.places w.single }
 
 record_is : (object : ℕ) (k : Key) → 1 ≤ object → object ≤ 2047 → k ≡ record_key object 0 → IsObjectKey 1 0 k
 record_is object k from to is = subst (λ (x : Key). IsObjectKey 1 0 x) (sym is) (record { from_one = from; to_last = to; rank = refl; first_leaf = refl; below_end = omega arith; depth = refl })

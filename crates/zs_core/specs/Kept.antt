@@ -19,7 +19,7 @@ use Rattle.zs_machine.specs.declared.event.Stage.TheVariants.{Writing}
 use Rattle.zs_core.specs.declared.parts.Head.{Head}
 use Rattle.zs_core.specs.declared.parts.Closed.{Closed}
 use Rattle.zs_core.specs.declared.present.Present.TheInside.{Inside}
-use Rattle.zs_machine.specs.Machine.{dataset_named}
+use Rattle.zs_ids.specs.GraphTree.{dataset_named}
 use Rattle.zs_machine.specs.Shapes.{IsShape, IsLeast, data_start}
 use Rattle.zs_machine.specs.Steps.{AreChanges, all_replaced}
 use Rattle.zs_core.specs.Placed.{room_of, AreFormed, AreStaged, AreBothPlaced}
@@ -94,7 +94,8 @@ abbrev pub born_by : ℕ → ℕ
 born_by applied = max 1 applied
 
 -- what is true of every present state: every device is online; the head and what is staged lie in the space, which ends
--- where the least device does; the scan belongs to the datasets; and the transaction groups follow each other, unless the pool was suspended
+-- where the least device does; the scan belongs to the datasets, and its scope ends by the transaction group whose tasks come
+-- next; and the transaction groups follow each other, unless the pool was suspended
 pub record Facts (p : Inside) : Type 0 where
   pub shape : IsShape p.shape
   pub online : p.online ≡ 2 ^ p.shape.devices - 1
@@ -105,6 +106,7 @@ pub record Facts (p : Inside) : Type 0 where
   pub head : IsHeadKept p.heads.head p.applied (data_start p.shape.blocks) p.next_sector p.end_sector (staged_in p.closed) p.open.staged
   pub blocks : ℕ
   pub scan : IsScanOf (room_of (data_start p.shape.blocks) p.end_sector blocks) (graph_of p.heads.head) (born_by p.applied) (p.applied + 1) p.scan
+  pub range : p.scan.scope.max ≤ p.applied + 1
   pub may_wait : p.scan.limit ≡ p.shape.limit
   pub at_stage : p.suspended ≡ false → IsAtStage p.heads.head p.applied p.open.txg p.closed p.stage
   pub limit : p.open.txg ≤ TXG_END

@@ -1,6 +1,6 @@
 -- The head of a pool in which an object has one record: how its blocks are formed, what may be staged for it, and where
 -- all of these lie.
-use Rattle.std.specs.Prelude.{◌≡◌, ◌<◌, ◌≤◌, ◌+◌, ◌==◌, ℕ, true, is_some, if◌then◌else◌, List, [], ◌∷◌, Option, Some, None}
+use Rattle.std.specs.Prelude.{◌≡◌, ◌<◌, ◌≤◌, ◌+◌, ◌==◌, ℕ, true, is_some, drop, if◌then◌else◌, List, [], ◌∷◌, Option, Some, None}
 use Rattle.zs_ids.specs.declared.key.Key.{Key}
 use Rattle.zs_ids.specs.declared.limits.TheConstants.{OBJECTS}
 use Rattle.zs_ids.specs.declared.block.Bp.{Bp}
@@ -16,7 +16,7 @@ use Rattle.zs_ids.specs.Graph.{Dataset, Graph, Has, pieces_of}
 use Rattle.zs_ids.specs.GraphValid.{Room, Overlap, record_sizes, origin}
 use Rattle.zs_txg.specs.declared.staged.Staging.{Staging}
 use Rattle.zs_txg.specs.Txg.{Slot, staged_at, put_staged, IsInSlotOrder}
-use Rattle.zs_objset.specs.Staged.{level_of}
+use Rattle.zs_objset.specs.Staged.{level_of, no_place}
 use Rattle.zs_machine.specs.Steps.{staged_once}
 
 -- a head that stands on the origin
@@ -42,11 +42,12 @@ pub data IsFormed (size : ℕ → ℕ) (key : Key) (sectors : ℕ) : Type 0 wher
 abbrev pub resized : (ℕ → ℕ) → ℕ → ℕ → ℕ → ℕ
 resized size object sectors n = if n == object then sectors else size n
 
--- an entry is a block of the head with one piece, born by n
+-- an entry is a block of the head with one place, born by n
 pub record IsWhole (size : ℕ → ℕ) (n : ℕ) (e : Key × Bp) : Type 0 where
   pub formed : IsFormed size e.0 e.1.sectors
   pub height : e.1.level ≡ level_of e.0
   pub single : e.1.count ≡ 1
+  pub unused : (p : Place) → Has (drop 1 e.1.places) p → p ≡ no_place
   pub born : e.1.birth ≤ n
 
 -- there is an entry at the key, not born before this transaction group

@@ -7,7 +7,8 @@ use Rattle.zs_script.specs.declared.command.Command.{Command}
 use Rattle.zs_script.specs.declared.command.Command.TheVariants as command
 use Rattle.zs_script.specs.declared.reply.Reply.{Reply}
 use Rattle.zs_script.specs.declared.reply.Reply.TheVariants as reply
-use Rattle.zs_machine.specs.Machine.{dataset_named, record_sectors}
+use Rattle.zs_machine.specs.Machine.{record_sectors}
+use Rattle.zs_ids.specs.GraphTree.{dataset_named}
 use Rattle.zs_machine.specs.Replies.{make_refusal, write_refusal}
 use Rattle.zs_core.specs.Kept.{IsFullExactly, born_by, sectors_to_stage}
 use Rattle.zs_machine.specs.Shapes.{IsShape, IsLeast, data_start, room_in}

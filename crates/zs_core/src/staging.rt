@@ -3,7 +3,8 @@
 ghost use Rattle.std.specs.Prelude.{nat_le, ◌≡◌, ◌<◌, ◌≤◌, ◌+◌, ◌/◌, ◌-◌, ◌%◌, ◌^◌, None, Some, true, false, IfOk, OnOk, OnErr, IsErrOf, ◌↔◌, is_some, if◌then◌else◌, option_map};
 ghost use Rattle.zs_ids.specs.Key.{root_key, dnode_key, record_key};
 ghost use Rattle.zs_txg.specs.Txg.{staged_at, put_staged};
-ghost use Rattle.zs_machine.specs.Machine.{is_named, has_object, staged_record, record_sectors};
+ghost use Rattle.zs_machine.specs.Machine.{has_object, staged_record, record_sectors};
+ghost use Rattle.zs_ids.specs.GraphTree.{is_named};
 ghost use Rattle.zs_machine.specs.Replies.{make_refusal, write_refusal};
 ghost use Rattle.zs_script.specs.declared.command.Command.TheVariants.{Make, Write};
 ghost use Rattle.zs_script.specs.Lines.{IsMake};

@@ -25,7 +25,8 @@ use Rattle.zs_machine.specs.declared.event.Step.TheVariants as step
 use Rattle.zs_machine.specs.declared.event.Stage.TheVariants as stages
 use Rattle.zs_machine.specs.History.{Full, Run, IsHistory}
 use Rattle.zs_machine.specs.Laws.{finished_in, HasCheckedAll}
-use Rattle.zs_machine.specs.Machine.{PoolState, dataset_named, is_running}
+use Rattle.zs_machine.specs.Machine.{PoolState, is_running}
+use Rattle.zs_ids.specs.GraphTree.{dataset_named}
 use Rattle.zs_machine.specs.Replies.{make_refusal, write_refusal, read_refusal, task_reply, after_queued}
 use Rattle.zs_machine.specs.Status.{counted, kind_word}
 use Rattle.zs_machine.specs.Steps.{Steps, CommandStep, LineStep, MakeStep, WriteStep, TaskStep, VerdictStep, ReadBeginStep, IsReadAnswer, DataStep, Begins, with_checked, committed_reply, finished_line}

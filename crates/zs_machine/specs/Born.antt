@@ -3,10 +3,9 @@ use Rattle.std.specs.Prelude.{◌≡◌, ℕ, List, true}
 use Rattle.std.specs.List.Sorted.{IsStrictlySortedBy}
 use Rattle.zs_ids.specs.declared.block.Item.{Item}
 use Rattle.zs_ids.specs.declared.block.Piece.{Piece}
-use Rattle.zs_ids.specs.Graph.{Graph, Has, IsLive}
+use Rattle.zs_ids.specs.Graph.{Graph, Has, IsLive, IsOfBlock}
 use Rattle.zs_ids.specs.Piece.{piece_cmp}
 use Rattle.zs_scan.specs.View.{pieces_in, has_item}
-use Rattle.zs_scan.specs.Covered.{IsOfBlock}
 
 -- the items are those of the pieces that are born in the transaction group and live, with their sizes and sums, in order
 -- of place

@@ -65,18 +65,6 @@ pub record PoolState : Type 0 where
   pub finished : Bool
   pub reads : List OpenRead
 
--- the names are the same
-abbrev pub same_name : Name → Name → Bool
-same_name a b = (a.len == b.len) && pointwise ◌==◌ a.bytes b.bytes
-
--- the dataset has this name; the origin has none
-abbrev pub is_named : DsName → Dataset → Bool
-is_named name d = not (d.id.0 == 0) && (same_name d.owner name.owner && same_name d.label name.label)
-
--- the dataset of that name
-abbrev pub dataset_named : Graph → DsName → Option Dataset
-dataset_named g name = find (is_named name) g
-
 -- what is staged at a slot in a transaction group that a sync may have closed
 abbrev pub closed_at : Option Txg → Slot → Option Staging
 closed_at None slot = None

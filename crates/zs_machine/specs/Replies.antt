@@ -14,7 +14,8 @@ use Rattle.zs_script.specs.declared.refusal.Refusal.{Refusal}
 use Rattle.zs_script.specs.declared.refusal.Refusal.TheVariants.{Exists, TooMany, ScanBusy, NoDataset, NoObject, ObjectThere, PastEnd, Suspended, TxgEnd}
 use Rattle.zs_script.specs.declared.reply.Reply.{Reply}
 use Rattle.zs_script.specs.declared.reply.Reply.TheVariants as reply
-use Rattle.zs_machine.specs.Machine.{PoolState, Data, ScanState, same_name, dataset_named, has_object, is_running, is_busy}
+use Rattle.zs_machine.specs.Machine.{PoolState, Data, ScanState, has_object, is_running, is_busy}
+use Rattle.zs_ids.specs.GraphTree.{same_name, dataset_named}
 
 -- a head of no blocks on the origin
 abbrev pub new_head : ℕ → Name → Dataset

@@ -44,7 +44,8 @@ use Rattle.zs_scan.specs.Steps.{no_scope}
 use Rattle.zs_machine.specs.Status.{TellsStatus, kind_word, counted}
 use Rattle.zs_machine.specs.Errors.{TellsErrors}
 use Rattle.zs_machine.specs.declared.event.OpenRead.{OpenRead}
-use Rattle.zs_machine.specs.Machine.{PoolState, Txg, Data, ScanState, dataset_named, staged_record, record_sectors, is_running, is_at_work}
+use Rattle.zs_machine.specs.Machine.{PoolState, Txg, Data, ScanState, staged_record, record_sectors, is_running, is_at_work}
+use Rattle.zs_ids.specs.GraphTree.{dataset_named}
 use Rattle.zs_machine.specs.Replies.{task_reply, after_queued, make_refusal, write_refusal, read_refusal, task_answers, after_tasks}
 
 -- a transaction group in which nothing is staged or queued

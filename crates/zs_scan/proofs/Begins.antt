@@ -32,7 +32,6 @@ scrub_may old t h by = record { runs = scrub≢idle; ends = omega (arith, by); l
 scrub_keeps : (v : ScanView) (t away room : ℕ) → KeepsFrom t v (record (scrub_started t away v) { room = room })
 scrub_keeps v t away room own g n h by is = record {
   covered = start_keeps own g n h (scrub_scope v.scope t) away (is_done (record (scrub_started t away v) { room = room })) is.covered.early is.covered.valid (scrub_may v.scope t h by);
-  range = by;
   live = record { waiting = λ e none. absurd none; flying = λ b i here item (flies : None ≡ Some (Some b.number)). cc };
   in_room = is.in_room;
 }

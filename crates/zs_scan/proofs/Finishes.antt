@@ -18,7 +18,6 @@ use Rattle.zs_scan.proofs.Orderly.{nothing_marked}
 finished_keeps : (v : ScanView) → IsComplete v → Keeps v (finished v)
 finished_keeps v complete own g n h is = record {
   covered = end_keeps own g n h v.scope v.run (is_done v) is.covered complete.scans (record { nowhere = complete.nowhere; empty = complete.walked; goes_on = complete.goes_on });
-  range = is.range;
   live = record { waiting = is.live.waiting; flying = is.live.flying };
   in_room = is.in_room;
 }

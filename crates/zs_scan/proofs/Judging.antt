@@ -23,7 +23,7 @@ use Rattle.zs_scan.proofs.Pieces.{same_is, same_itself}
 use Rattle.zs_scan.proofs.Marking.{none_marked_at}
 use Rattle.zs_scan.proofs.Landings.{HaveLanded}
 use Rattle.zs_scan.proofs.Batches.{into-filter, one_batch, rises_filter}
-use Rattle.zs_cover.proofs.Lists.{from-append}
+use Rattle.zs_graph.proofs.Lists.{from-append}
 use Rattle.zs_queue.specs.Lists.{has-filter}
 
 -- the entries of a batch are of the pieces of its items

@@ -65,7 +65,6 @@ resumed_keeps v scans own g n h is = record {
       ];
     };
   };
-  range = is.range;
   live = record { waiting = is.live.waiting; flying = is.live.flying };
   in_room = is.in_room;
 }

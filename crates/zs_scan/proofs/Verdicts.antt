@@ -72,7 +72,6 @@ module _ (v : ScanView) (number : ℕ) (entries : List Entry) (marks : List (Pie
   after_is : Keeps v after
   after_is own g n h is = record {
     covered = later_covered own g n h h v.scope v.run (is_done v) (is_done after) is.covered (le_refl h) (λ p live done. done_stays p done);
-    range = is.range;
     live = record {
       waiting = is.live.waiting;
       flying = λ b i here item flies. is.live.flying b i (has-filter (λ (x : Batch). not (x.number == number)) v.flight b here).0 item (was i.piece (Some b.number) flies);

@@ -4,7 +4,7 @@ use Rattle.zs_ids.specs.declared.key.Key.{Key}
 use Rattle.zs_ids.specs.declared.block.Bp.{Bp}
 use Rattle.zs_ids.specs.declared.block.Piece.{Piece}
 use Rattle.zs_ids.specs.declared.block.Item.{Item}
-use Rattle.zs_ids.specs.Graph.{Dataset, Graph, Has, IsLive, pieces_of}
+use Rattle.zs_ids.specs.Graph.{Graph, Has, IsLive, IsOfBlock}
 use Rattle.zs_ids.specs.GraphValid.{Room, Valid, LiesIn}
 use Rattle.zs_ledger.specs.declared.entry.Entry.{Entry}
 use Rattle.zs_ledger.specs.Entry.{AreCopies}
@@ -14,16 +14,6 @@ use Rattle.zs_phys.specs.Scope.{in_scope}
 use Rattle.zs_cover.specs.Laws.{IsCovered}
 use Rattle.zs_scan.specs.declared.batch.Batch.{Batch}
 use Rattle.zs_scan.specs.View.{ScanView, mark_of, is_done}
-
--- some dataset has a block of this piece, with this size and sum
-pub record IsOfBlock (g : Graph) (piece : Piece) (sectors : ℕ) (sum : List ℕ) : Type 0 where
-  pub holder : Dataset
-  pub is_dataset : Has g holder
-  pub at : Key × Bp
-  pub is_entry : Has holder.entries at
-  pub is_piece : Has (pieces_of at.1) piece
-  pub size : sectors ≡ at.1.sectors
-  pub same_sum : sum ≡ at.1.sum
 
 -- the pieces that wait and those that fly are live, and their items have the size and sum of the piece's pointer
 pub record AreLive (g : Graph) (v : ScanView) : Type 0 where
@@ -43,11 +33,10 @@ RoomLaw =
     → IsInRoom room (record { piece = piece; sectors = sectors; sum = sum })
 
 -- the scan belongs to the datasets, whose blocks are born by n and which lie in the room, where the tasks of the
--- transaction group h come next: its state is sound and covers them, with what is checked, waits or flies as done; its
--- scope ends by h; what waits or flies is live; and what is in flight lies in the room, also what was freed since
+-- transaction group h come next: its state is sound and covers them, with what is checked, waits or flies as done; what
+-- waits or flies is live; and what is in flight lies in the room, also what was freed since
 pub record IsScanOf (room : Room) (g : Graph) (n h : ℕ) (v : ScanView) : Type 0 where
   pub covered : IsCovered room g n h v.scope v.run (is_done v)
-  pub range : v.scope.max ≤ h
   pub live : AreLive g v
   pub in_room : (b : Batch) (i : Item) → Has v.flight b → Has b.items i → IsInRoom room i
 

@@ -1,8 +1,9 @@
 //! The turns of the walk, with what they put into the queue.
 
-ghost use Rattle.std.specs.Prelude.{◌≡◌, ◌<◌, ◌≤◌, ℕ, true, false, length, Err, OnOk, OnErr, IfOk, IsErrOf, IfSome, is_some};
-ghost use Rattle.zs_ids.specs.GraphValid.{Room};
+ghost use Rattle.std.specs.Prelude.{◌≡◌, ◌≢◌, ◌<◌, ◌≤◌, ℕ, true, false, length, Err, OnOk, OnErr, IfOk, IsErrOf, IfSome, is_some};
+ghost use Rattle.zs_ids.specs.GraphValid.{HasOnePlace, Room};
 ghost use Rattle.zs_queue.specs.Waiting.{waits, with_item};
+ghost use Rattle.zs_walk.specs.Left.{turns_left};
 ghost use Rattle.zs_walk.specs.Walking.{MayWalk};
 ghost use Rattle.zs_scan.specs.Covered.{IsScanOf};
 ghost use Rattle.zs_scan.specs.Walks.{Walked, IsWanted, Put, PutIf, IsFull, HasPlace, turn_of, item_of, item_put};
@@ -47,15 +48,18 @@ impl Scan {
     /// Makes the next turn of the walk over the datasets, and answers what it was. Refused as `Full` exactly where the
     /// turn would put a piece and as many wait as the limit allows, and then whatever memory there is. Nothing has changed
     /// where it was refused, nor after want of memory. A scan that covers the datasets, and whose pieces they have, is such
-    /// a scan after the turn.
+    /// a scan after the turn, where each block has one place and the scope ends by the group whose tasks come next. Each turn
+    /// but the empty one leaves fewer turns, so that the walk comes to its end.
     pub fn walk_step<G: Datasets>(&mut self, graph: &G) -> Result<Turn, ScanFault>
         requires { MayWalk (G.datasets graph.now) self.old.scope self.old.run }
         ensures turn { IfOk result (λ turn. Walked (G.datasets graph.now) self.old turn self.new) }
         ensures goes_on { IfOk result (λ turn. MayWalk (G.datasets graph.now) self.new.scope self.new.run) }
+        ensures left { IfOk result (λ turn. turn ≢ Turn.Nothing
+            → turns_left (G.datasets graph.now) self.new.run < turns_left (G.datasets graph.now) self.old.run) }
         ensures full { IsErrOf result ScanFault.Full → IsFull (G.datasets graph.now) self.old }
         ensures refuses { IsFull (G.datasets graph.now) self.old → result ≡ Err ScanFault.Full }
         ensures busy { IsErrOf result ScanFault.ScanBusy → ⊥ }
-        ensures keeps { OnOk result ((room : Room) (n h : ℕ)
+        ensures keeps { OnOk result ((room : Room) (n h : ℕ) → HasOnePlace (G.datasets graph.now) → self.old.scope.max ≤ h
             → IsScanOf room (G.datasets graph.now) n h self.old → IsScanOf room (G.datasets graph.now) n h self.new) }
         ensures err { OnErr result (self.new ≡ self.old) }
     {

@@ -4,7 +4,7 @@ use Rattle.std.specs.Prelude.{Option, Some, None}
 use Rattle.zs_ids.specs.declared.block.Piece.{Piece}
 use Rattle.zs_ids.specs.Graph.{Has}
 use Rattle.zs_ledger.specs.declared.entry.Entry.{Entry}
-use Rattle.zs_cover.proofs.Lists.{has-map}
+use Rattle.zs_graph.proofs.Lists.{has-map}
 use Rattle.zs_queue.specs.Lists.{passing-cons}
 use Rattle.zs_scan.specs.declared.batch.Batch.{Batch}
 use Rattle.zs_scan.specs.Flight.{first_of}

@@ -12,7 +12,7 @@ use Rattle.zs_core.specs.Kept.{view_of, Facts, IsClosedOver, IsHeadKept, IsPutIn
 use Rattle.zs_core.specs.View.{txg_of, closed_of, graph_of, pointers_in, data_of, scan_of, next_id_of}
 use Rattle.zs_core.proofs.HeadPut.{put_kept, head_written}
 use Rattle.zs_core.proofs.ScanPut.{blocks_now, put_scanned}
-use Rattle.zs_core.proofs.Ended.{freed_complete, ran_complete, ended_limit, ended_width, ended_if_complete, next_scanned, put_data, end_step}
+use Rattle.zs_core.proofs.Ended.{freed_complete, ran_complete, ended_limit, ended_width, ended_if_complete, next_scanned, ends_by, put_data, end_step}
 use Rattle.zs_core.proofs.Started.{started_limit, started_width}
 use Rattle.zs_core.proofs.Birth.{born_items}
 use Rattle.zs_machine.specs.Born.{AreBornItems}
@@ -66,6 +66,10 @@ scanned c = (c.run_tasks.ensures.runs_on).scanned (data_start c.self.inside.shap
 ended : (c : goal.After-self-5-1) → IsScanOf (room c) (graph_of c.run_tasks.new.heads.head) (born_by c.in-Some.closed.txg.txg) (c.in-Some.closed.txg.txg + 1) c.end_scan-self-inside.new.scan
 ended c = next_scanned (room c) (graph_of c.run_tasks.new.heads.head) c.in-Some.closed.txg.txg c.end_scan-self-inside.new.scan (since c) (c.end_scan-self-inside.ensures.keeps (room c) (graph_of c.run_tasks.new.heads.head) c.in-Some.closed.txg.txg c.in-Some.closed.txg.txg (scanned c))
 
+-- and its scope ends by the group whose tasks come next
+range : (c : goal.After-self-5-1) → c.end_scan-self-inside.new.scan.scope.max ≤ c.in-Some.closed.txg.txg + 1
+range c = ends_by (room c) (graph_of c.run_tasks.new.heads.head) c.in-Some.closed.txg.txg c.in-Some.closed.txg.txg c.end_scan-self-inside.new.scan (c.end_scan-self-inside.ensures.keeps (room c) (graph_of c.run_tasks.new.heads.head) c.in-Some.closed.txg.txg c.in-Some.closed.txg.txg (scanned c))
+
 -- and it has its limit
 limit : (c : goal.After-self-5-1) → c.end_scan-self-inside.new.scan.limit ≡ c.self.inside.scan.limit
 limit c = ended_limit _ _ _ _ _ c.end_scan-self-inside.ensures ∙ started_limit _ _ _ (c.run_tasks.ensures.runs_on).ran ∙ ap (λ (v : ScanView). v.limit) (frees c).rest
@@ -85,6 +89,7 @@ invariant_of-self-2 c = record {
   head = subst (λ (n : ℕ). IsHeadKept c.run_tasks.new.heads.head n (data_start c.self.inside.shape.blocks) c.self.inside.next_sector c.self.inside.end_sector [] c.self.inside.open.staged) (sym c.txg-self-inside.ensures) (kept c);
   blocks = blocks_now c.self.inside (facts c) c.put_in.new.heads.head;
   scan = subst (λ (n : ℕ). IsScanOf (room c) (graph_of c.run_tasks.new.heads.head) (born_by n) (n + 1) c.end_scan-self-inside.new.scan) (sym c.txg-self-inside.ensures) (ended c);
+  range = subst (λ (n : ℕ). c.end_scan-self-inside.new.scan.scope.max ≤ n + 1) (sym c.txg-self-inside.ensures) (range c);
   may_wait = limit c ∙ (facts c).may_wait;
   at_stage = λ still. let n = (was_closed c).number in let m = (was_closed c).next in let t = c.txg-self-inside.ensures in omega arith;
   limit = (facts c).limit;

@@ -27,6 +27,7 @@ invariant_of-self c =
       blocks = f.blocks;
       head = rw (opened, closed) (closes_head _ _ _ _ _ _ _ f.head);
       scan = f.scan;
+      range = f.range;
       may_wait = f.may_wait;
       at_stage = λ still. record {
         number = rw closed last;

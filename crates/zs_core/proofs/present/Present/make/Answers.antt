@@ -28,6 +28,7 @@ invariant_of-self-2 c =
       blocks = f.blocks;
       head = rw (c.in-Some-head.is, c.in_ok-stage_record.ensures.staged, c.sectors_needed-needed.ensures.needed) (head_made _ _ _ _ _ _ _ _ _ _ (some_fill _ _) was numbers.least_object numbers.most_object (is_record_size c.args.size numbers.least_size numbers.most_size numbers.power) free.0 free.1 free.2 (rw c.sectors_needed-needed.ensures.needed at fits));
       scan = f.scan;
+      range = f.range;
       may_wait = f.may_wait;
       at_stage = λ up. subst (λ (n : ℕ). IsAtStage c.self.inside.heads.head c.self.inside.applied n c.self.inside.closed c.self.inside.stage) (sym (ap (λ o. o.txg) c.in_ok-stage_record.ensures.kept)) (f.at_stage up);
       limit = subst (λ (n : ℕ). n ≤ TXG_END) (sym (ap (λ o. o.txg) c.in_ok-stage_record.ensures.kept)) f.limit;

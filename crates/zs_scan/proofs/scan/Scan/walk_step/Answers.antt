@@ -1,6 +1,7 @@
 use Rattle.std.proofs.Common.{subst, rules}
 use Rattle.zs_phys.specs.Turn.{Comes}
 use Rattle.zs_scan.specs.View.{ScanView}
+use Rattle.zs_scan.proofs.Ends.{walk_left}
 use Rattle.zs_scan.proofs.Putting.{wanted_if}
 use Rattle.zs_scan.proofs.Turns.{walked_keeps}
 use Rattle.zs_scan.proofs.Full.{full_is, ok_not_err}
@@ -11,8 +12,12 @@ put_if-requires g c =
     wanted_if _ c.args.self.now _ _ c.item_put-item.ensures.item
     (subst (λ (o : ScanView). Comes (g.G.Datasets.datasets c.args.graph.now) o.scope o.run c.visit-step.result) c.self.view_is c.visit-step.ensures.turn)
 
+pub returns-clause-left : goal.returns-clause-left
+returns-clause-left g c = λ moves.
+    walk_left _ c.args.self.now (record c.put_if.new.self { run = c.advance.new.phys }) c.turn_of.result c.requires (search rules) moves
+
 pub returns-clause-keeps : goal.returns-clause-keeps
-returns-clause-keeps g c = λ room n h was. walked_keeps room _ n h c.args.self.now _ c.turn_of.result (search rules) was
+returns-clause-keeps g c = λ room n h one by was. walked_keeps room _ n h c.args.self.now _ c.turn_of.result (search rules) one by was
 
 pub returns-in_err-put_if-clause-refuses : goal.returns-in_err-put_if-clause-refuses
 returns-in_err-put_if-clause-refuses g c full =
