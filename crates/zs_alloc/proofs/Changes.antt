@@ -12,7 +12,6 @@ use Rattle.std.proofs.lemmas.Map.{NonePasses, lookup-none}
 use Rattle.std.proofs.lemmas.Map.Entries.{none_below_head}
 use Rattle.std.proofs.lemmas.Map.Keys.{sorted_head, sorted_tail}
 use Rattle.std.specs.List.{AllByRecursion}
-use Rattle.zs_alloc.specs.declared.free.Range.{Range}
 use Rattle.zs_alloc.specs.declared.taken.Taken.{Taken}
 use Rattle.zs_alloc.specs.Free.{hits}
 use Rattle.zs_alloc.specs.Kept.{IsSplit, IsUpdate, taken_count, AreSome, AreKept}
@@ -111,18 +110,16 @@ pub not_over : (es : List (ℕ × Taken)) (k : ℕ) (w : Taken) → is_over w �
 not_over es k w over kept = still_same (with_range es k w) (kept_insert es k w over kept)
 
 -- the space when a taken range is changed and does not go
-pub split_update : (start end : ℕ) (free : List Range) (taken : List (ℕ × Taken)) (capacity : ℕ) (k : ℕ) (w : Taken) (taken' : List (ℕ × Taken)) → IsSplit start end free taken capacity → IsUpdate taken k w → is_over w ≡ false → taken' ≡ with_range taken k w → IsStrictlySortedBy nat_cmp (keys_of taken') → IsSplit start end free taken' capacity
-split_update start end free taken capacity k w taken' split update over is sorted =
+pub split_update : (start end : ℕ) (free : List Bool) (taken : List (ℕ × Taken)) (k : ℕ) (w : Taken) (taken' : List (ℕ × Taken)) → IsSplit start end free taken → IsUpdate taken k w → is_over w ≡ false → taken' ≡ with_range taken k w → IsStrictlySortedBy nat_cmp (keys_of taken') → IsSplit start end free taken'
+split_update start end free taken k w taken' split update over is sorted =
     let f : Taken → Taken = λ e. record e { pins = w.pins; freed = w.freed } in
     let whole : f update.was ≡ w = ap (λ n. made n) update.size in
     let put : taken' ≡ changed k f taken = is ∙ ap (λ x. with_range taken k x) (sym whole) ∙ insert_changed taken k update.was f split.sorted update.there in
     record {
-      rises = split.rises;
       parts = λ s. let was = split.parts s in let same = count_changed taken k f s (λ e. refl) in rw put (omega arith);
       some = rw put (some_changed taken k f (λ e. refl) split.some);
       kept = rw is (kept_insert taken k w over split.kept);
       sorted = sorted;
-      room = let had = split.room in let same = length_changed taken k f in rw put (omega arith);
     }
   where
     made : ℕ → Taken

@@ -1,8 +1,7 @@
--- How many ranges have a sector.
-use Rattle.std.proofs.Common.{◌≡◌, ◌≤◌, ◌<◌, ◌+◌, ◌⊎◌, ℕ, true, false, cond, List, [], ◌∷◌, ◌++◌, arith, refl, ap, inl, inr}
+-- Whether a sector lies in a range, as a number.
+use Rattle.std.proofs.Common.{◌≡◌, ◌≤◌, ◌<◌, ◌+◌, ◌⊎◌, ℕ, true, false, cond, arith, refl, ap, inl, inr}
 use Rattle.std.proofs.lemmas.Bool.Decides.{nat_tests}
-use Rattle.zs_alloc.specs.declared.free.Range.{Range}
-use Rattle.zs_alloc.specs.Free.{hits, is_within, free_count}
+use Rattle.zs_alloc.specs.Free.{hits, is_within}
 
 pub hits_in : (a b s : ℕ) → a ≤ s → s < b → hits a b s ≡ 1
 unfolding hits
@@ -54,10 +53,3 @@ hits_split a b c s p q = elim (where_is a b s) [
     ]
   ]
 ]
-
-pub count_join : (xs ys : List Range) (s : ℕ) → free_count (xs ++ ys) s ≡ free_count xs s + free_count ys s
-count_join [] ys s = omega arith
-count_join (x ∷ xs) ys s = let rest = count_join xs ys s in omega arith
-
-pub count_at : (xs : List Range) (r : Range) (ys : List Range) (s : ℕ) → free_count (xs ++ r ∷ ys) s ≡ free_count xs s + (hits r.first r.end s + free_count ys s)
-count_at xs r ys s = count_join xs (r ∷ ys) s

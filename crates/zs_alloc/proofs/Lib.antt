@@ -1,12 +1,12 @@
 pub mod Counts
+pub mod Runs
+pub mod Joins
+pub mod Chunks
+pub mod Halves
 pub mod Each
-pub mod Edits
 pub mod Listing
 pub mod Marks
 pub mod PinMarks
-pub mod Place
-pub mod Rises
-pub mod Search
 pub mod Settling
 pub mod Split
 pub mod Changes

@@ -8,7 +8,6 @@ use Rattle.std.specs.declared.cmp.Ordering.TheVariants.{Less, Equal, Greater}
 use Rattle.std.specs.Map.{keys_of}
 use Rattle.std.specs.List.Sorted.{IsStrictlySortedBy}
 use Rattle.std.proofs.lemmas.Map.Lookups.{exact_unsigned}
-use Rattle.zs_alloc.specs.declared.free.Range.{Range}
 use Rattle.zs_alloc.specs.declared.taken.Taken.{Taken}
 use Rattle.zs_alloc.specs.Free.{free_count, hits, is_within, AreFree, AreTaken, IsCut, IsPut}
 use Rattle.zs_alloc.specs.Kept.{IsSplit, taken_count, AreSome, AreKept, IsLaidOut}
@@ -150,7 +149,7 @@ both_true : (a b : Bool) → a ≡ true → b ≡ false → (a && not b) ≡ tru
 both_true a b p q = rw (p, q) refl
 
 -- the free sectors are those of the free ranges
-module _ (start end : ℕ) (free : List Range) (taken : List (ℕ × Taken)) (capacity : ℕ) (split : IsSplit start end free taken capacity) where
+module _ (start end : ℕ) (free : List Bool) (taken : List (ℕ × Taken)) (split : IsSplit start end free taken) where
   mirror : MirrorView
   mirror = record { start = start; end = end; taken = taken }
 
@@ -205,9 +204,8 @@ module _ (start end : ℕ) (free : List Range) (taken : List (ℕ × Taken)) (ca
             let sum = split.parts last in
             absurd (omega arith)
 
-    pub split_put : (new : List Range) (taken' : List (ℕ × Taken)) (capacity' : ℕ) → IsPut free a (a + v.sectors) new → taken' ≡ without_range taken a → IsStrictlySortedBy nat_cmp (keys_of taken') → length new ≤ length free + 1 → capacity ≤ capacity' → IsSplit start end new taken' capacity'
-    split_put new taken' capacity' put is sorted few room = record {
-      rises = put.rises;
+    pub split_put : (new : List Bool) (taken' : List (ℕ × Taken)) → IsPut free a (a + v.sectors) new → taken' ≡ without_range taken a → IsStrictlySortedBy nat_cmp (keys_of taken') → IsSplit start end new taken'
+    split_put new taken' put is sorted = record {
       parts = λ s.
           let was = split.parts s in
           let now = put.count s in
@@ -216,10 +214,6 @@ module _ (start end : ℕ) (free : List Range) (taken : List (ℕ × Taken)) (ca
       some = rw is (some_remove taken a split.some);
       kept = rw is (kept_remove taken a split.kept);
       sorted = sorted;
-      room =
-          let had = split.room in
-          let less = length_remove taken a v there in
-          rw is (omega arith);
     }
 
   free_absent : (a : ℕ) (o : Option Taken) → taken_at taken a ≡ o → 1 ≤ free_count free a → o ≡ None
@@ -229,11 +223,10 @@ module _ (start end : ℕ) (free : List Range) (taken : List (ℕ × Taken)) (ca
       let none = (taken_free a v is).each a (omega arith) (omega arith) in
       absurd (omega arith)
 
-  pub split_cut : (a n : ℕ) (new : List Range) (taken' : List (ℕ × Taken)) (capacity' : ℕ) → 0 < n → AreFree free a (a + n) → IsCut free a (a + n) new → taken' ≡ with_range taken a (fresh n) → IsStrictlySortedBy nat_cmp (keys_of taken') → length new + length taken' ≤ capacity' → IsSplit start end new taken' capacity'
-  split_cut a n new taken' capacity' some run cut is sorted room =
+  pub split_cut : (a n : ℕ) (new : List Bool) (taken' : List (ℕ × Taken)) → 0 < n → AreFree free a (a + n) → IsCut free a (a + n) new → taken' ≡ with_range taken a (fresh n) → IsStrictlySortedBy nat_cmp (keys_of taken') → IsSplit start end new taken'
+  split_cut a n new taken' some run cut is sorted =
       let absent = free_absent a (taken_at taken a) refl (run.each a (omega arith) (omega arith)) in
       record {
-        rises = cut.rises;
         parts = λ s.
             let was = split.parts s in
             let now = cut.count s in
@@ -242,35 +235,12 @@ module _ (start end : ℕ) (free : List Range) (taken : List (ℕ × Taken)) (ca
         some = rw is (some_insert taken a (fresh n) some split.some);
         kept = rw is (kept_insert taken a (fresh n) refl split.kept);
         sorted = sorted;
-        room = room;
       }
 
-pub split_empty : (start end : ℕ) (capacity : ℕ) → end ≤ start → IsSplit start end [] [] capacity
+-- a space of which nothing is taken
+pub split_blank : (start end : ℕ) (free : List Bool) → ((s : ℕ) → free_count free s ≡ hits start end s) → IsSplit start end free []
 unfolding IsStrictlySortedBy
-split_empty start end capacity le = record {
-  rises = tt;
-  parts = λ s. sym (nowhere s (where_is start end s));
-  some = tt;
-  kept = tt;
-  sorted = tt;
-  room = omega arith;
-}
-  where
-    nowhere : (s : ℕ) → (s < start) ⊎ ((start ≤ s) × (s < end)) ⊎ (end ≤ s) → hits start end s ≡ 0
-    nowhere s (inl low) = hits_below start end s low
-    nowhere s (inr (inl mid)) = let p = mid.0 in let q = mid.1 in absurd (omega arith)
-    nowhere s (inr (inr up)) = hits_above start end s up
-
-pub split_whole : (start end : ℕ) (capacity : ℕ) → start < end → 1 ≤ capacity → IsSplit start end (record { first = start; end = end } ∷ []) [] capacity
-unfolding IsStrictlySortedBy
-split_whole start end capacity lt room = record {
-  rises = (omega arith, lt, tt);
-  parts = λ s. omega arith;
-  some = tt;
-  kept = tt;
-  sorted = tt;
-  room = omega arith;
-}
+split_blank start end free all = record { parts = λ s. let is = all s in omega arith; some = tt; kept = tt; sorted = tt }
 
 -- a free run ends where the space does or before
 pub run_end : (m : MirrorView) (a n : ℕ) → 0 < n → IsFreeRun m a n → a + n ≤ m.end
@@ -289,8 +259,8 @@ run_end m a n some run = reaches (bounds (a + n) m.end)
         let none = hits_above m.start m.end last (omega arith) in
         absurd (omega arith)
 
-pub laid_out : (m : MirrorView) (free : List Range) (capacity : ℕ) → IsSplit m.start m.end free m.taken capacity → IsLaidOut m
-laid_out m free capacity split = record {
+pub laid_out : (m : MirrorView) (free : List Bool) → IsSplit m.start m.end free m.taken → IsLaidOut m
+laid_out m free split = record {
   apart = λ s. let sum = split.parts s in omega arith;
   some = split.some;
   kept = split.kept;

@@ -4,12 +4,13 @@ use Rattle.std.specs.Ordering.{nat_cmp, is_eq}
 use Rattle.std.specs.List.{list_any}
 use Rattle.std.specs.Map.{keys_of}
 use Rattle.std.specs.List.Sorted.{IsStrictlySortedBy}
-use Rattle.zs_alloc.specs.declared.free.Range.{Range}
+use Rattle.zs_alloc.specs.declared.tree.Tree.{Tree}
 use Rattle.zs_alloc.specs.declared.taken.Taken.{Taken}
 use Rattle.zs_alloc.specs.declared.taken.Freed.{Freed}
 use Rattle.zs_alloc.specs.declared.taken.Freed.TheVariants.{Not, In, Settled}
 use Rattle.zs_alloc.specs.declared.mirror.Freeing.{Freeing}
-use Rattle.zs_alloc.specs.Free.{RisesFrom, free_count, hits}
+use Rattle.zs_alloc.specs.Free.{free_count, hits}
+use Rattle.zs_alloc.specs.Runs.{flags_of, IsSummed}
 use Rattle.zs_alloc.specs.Space.{MirrorView, is_over, taken_at, still_taken, settled}
 
 -- how many of the taken ranges have the sector
@@ -44,15 +45,18 @@ pub record IsUpdate (taken : List (ℕ × Taken)) (first : ℕ) (range : Taken) 
   pub there : taken_at taken first ≡ Some was
   pub size : was.sectors ≡ range.sectors
 
--- each sector of the space is in one range, a free or a taken one, and no other sector is in any; there is room
--- for a free range in the place of each taken one
-pub record IsSplit (start end : ℕ) (free : List Range) (taken : List (ℕ × Taken)) (capacity : ℕ) : Type 0 where
-  pub rises : RisesFrom 0 free
+-- each sector of the space is free or in one taken range, and no other sector is
+pub record IsSplit (start end : ℕ) (free : List Bool) (taken : List (ℕ × Taken)) : Type 0 where
   pub parts : (s : ℕ) → free_count free s + taken_count taken s ≡ hits start end s
   pub some : AreSome taken
   pub kept : AreKept taken
   pub sorted : IsStrictlySortedBy nat_cmp (keys_of taken)
-  pub room : length free + length taken ≤ capacity
+
+-- so it is by a tree of the free sectors, which knows its runs
+pub record IsSplitBy (start end : ℕ) (free : Tree) (taken : List (ℕ × Taken)) : Type 0 where
+  pub split : IsSplit start end (flags_of free) taken
+  pub summed : IsSummed free
+  pub len : length (flags_of free) ≡ end
 
 -- a range that was freed in a transaction group that is not settled is in the list
 abbrev pub IsListed : List Freeing → ℕ → Freed → Type 0

@@ -1,3 +1,4 @@
 pub mod Free
+pub mod Runs
 pub mod Kept
 pub mod Space

@@ -8,21 +8,22 @@
 //! where none fits; `claim` takes just what it is asked for, where that is free. A range that was freed in a
 //! transaction group is free once that group is settled and no pin is on it, whichever comes last. Each contract
 //! gives the one list of taken ranges that comes out; after a refusal nothing has changed.
-//! Cost: `take` walks the free ranges of one mirror; `claim`, `give` and a last `unpin` look their place up in them,
-//! and move those behind it; `settle` looks up what is freed and not settled. None walks the taken ranges.
-//! Memory: there is always room for a free range in the place of each taken one, so that `give`, `unpin` and
-//! `settle` take none.
+//! Cost: the free sectors of a mirror stand in a tree that knows the runs in each of its parts. `take` goes down the tree once,
+//! however the free sectors lie; `claim`, `give` and a last `unpin` go down to the parts that a range has; `settle` looks up
+//! what is freed and not settled. None walks the free or the taken ranges.
+//! Memory: the tree is made with the space, some two bytes for each sector, so that `give`, `unpin` and `settle` take none.
 //!
-//! To change where a block goes see `free`; what a taken range carries, `taken`; when it becomes free, `mirror`;
-//! how free and taken ranges fit together, `ranges` and `specs/Kept`.
+//! To change where a block goes see `tree`; what a taken range carries, `taken`; when it becomes free, `mirror`;
+//! how free sectors and taken ranges fit together, `ranges` and `specs/Kept`.
 #![tactic(auto)]
 
+mod chunk;
 pub mod fault;
-mod free;
 mod mirror;
 mod ranges;
 pub mod space;
 pub mod taken;
+mod tree;
 
 pub use fault::SpaceFault;
 pub use space::Space;

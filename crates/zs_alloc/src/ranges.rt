@@ -1,17 +1,19 @@
 //! The free and the taken ranges of one mirror.
 
-ghost use Rattle.std.specs.Prelude.{◌≡◌, ◌<◌, ◌≤◌, ◌+◌, [], ℕ, length, vec_len, vec_capacity, IfOk, IfErr, OnOk, OnErr, Some, None};
+ghost use Rattle.std.specs.Prelude.{◌≡◌, ◌<◌, ◌≤◌, ◌+◌, [], ℕ, length, IfOk, IfErr, OnOk, OnErr, Some, None};
 ghost use Rattle.std.specs.Map.{keys_of};
 ghost use Rattle.std.specs.Ordering.{nat_cmp};
 ghost use Rattle.std.specs.List.Sorted.{IsStrictlySortedBy};
 ghost use Rattle.zs_alloc.specs.declared.taken.Freed.TheVariants.{Not};
-ghost use Rattle.zs_alloc.specs.Kept.{IsSplit, AreKept, IsUpdate, IsLaidOut};
-ghost use Rattle.zs_alloc.specs.Free.{RisesFrom, AreTaken, Holds, IsCut, IsPut};
+ghost use Rattle.zs_alloc.specs.Kept.{IsSplitBy, AreKept, IsUpdate, IsLaidOut};
+ghost use Rattle.zs_alloc.specs.Free.{AreFree, AreTaken, IsFirstFit, IsCut, IsPut};
+ghost use Rattle.zs_alloc.specs.Runs.{flags_of, IsSummed, HasRun};
+ghost use Rattle.std.specs.Bool.{OnTrue, OnFalse};
 ghost use Rattle.zs_alloc.specs.Space.{taken_at, fresh, with_range, without_range, HasNoRun, IsLowestRun, IsFreeRun, NoSpaceWhere, still_taken};
 
 use crate::fault::SpaceFault;
-use crate::free::{Range, cut, first_fit, holding, put};
 use crate::taken::{Freed, Taken};
+use crate::tree::{Tree, first_run, is_run, none_free, runs_of, set};
 use std::alloc::{AllocError, Global};
 use std::collections::BTreeMap;
 use std::marker::Model;
@@ -23,22 +25,21 @@ pub(crate) struct Ranges {
     start: u32,
     /// The sector behind the last one.
     end: u32,
-    /// The free ranges, with room for one more in the place of each taken range.
-    free: Vec<Range>,
+    /// Which sectors are free.
+    free: Tree,
     /// The taken ranges by their first sectors.
     taken: BTreeMap<u32, Taken>,
 }
 
 impl Model for Ranges {
-    ghost use Rattle.std.specs.Prelude.{vec_capacity};
     ghost use Rattle.zs_alloc.specs.Space.{MirrorView};
-    ghost use Rattle.zs_alloc.specs.Kept.{IsSplit, AreKept, IsUpdate, IsLaidOut};
+    ghost use Rattle.zs_alloc.specs.Kept.{IsSplitBy};
 
     ghost Value = { MirrorView };
 
     ghost view = { λ m. record { start = m.start; end = m.end; taken = m.taken.entries } };
 
-    ghost invariant = { λ m. IsSplit m.start m.end m.free.items m.taken.entries (vec_capacity m.free) };
+    ghost invariant = { λ m. IsSplitBy m.start m.end m.free m.taken.entries };
 }
 
 impl Ranges {
@@ -63,11 +64,11 @@ impl Ranges {
         ensures refused { IfErr result (NoSpaceWhere (HasNoRun self.old sectors)) }
         ensures err { OnErr result (self.new ≡ self.old) }
     {
-        let size = u32::from(sectors);
-        let Some((index, first)) = first_fit(&self.free, size) else {
+        let _end = self.end;
+        let Some(first) = first_fit(&self.free, sectors) else {
             return Err(SpaceFault::NoSpace);
         };
-        let Ok(()) = occupy(&mut self.free, &mut self.taken, index, first, sectors) else {
+        let Ok(()) = occupy(&mut self.free, &mut self.taken, first, sectors) else {
             return Err(SpaceFault::Memory);
         };
         Ok(first)
@@ -81,14 +82,13 @@ impl Ranges {
         ensures refused { IfErr result (NoSpaceWhere (IsFreeRun self.old first sectors → ⊥)) }
         ensures err { OnErr result (self.new ≡ self.old) }
     {
-        let size = u32::from(sectors);
-        if self.end.saturating_sub(size) < first {
+        if u64::from(self.end) < u64::from(first) + u64::from(sectors) {
             return Err(SpaceFault::NoSpace);
         }
-        let Some(index) = holding(&self.free, first, first + size) else {
+        if !is_free(&self.free, first, sectors) {
             return Err(SpaceFault::NoSpace);
-        };
-        let Ok(()) = occupy(&mut self.free, &mut self.taken, index, first, sectors) else {
+        }
+        let Ok(()) = occupy(&mut self.free, &mut self.taken, first, sectors) else {
             return Err(SpaceFault::Memory);
         };
         Ok(())
@@ -136,64 +136,82 @@ impl Ranges {
     }
 }
 
-/// The free ranges of a space that is all free.
-fn whole(alloc: Global, start: u32, end: u32) -> Result<Vec<Range>, AllocError>
-    ensures { IfOk result (λ v. IsSplit start end v.items [] (vec_capacity v)) }
+/// The free sectors of a space that is all free.
+fn whole(alloc: Global, start: u32, end: u32) -> Result<Tree, AllocError>
+    ensures { IfOk result (λ free. IsSplitBy start end free []) }
 {
-    let mut free = Vec::with_capacity(alloc, 1)?;
-    if end <= start {
-        return Ok(free);
-    }
-    free.push_reserved(Range { first: start, end });
+    let mut free = none_free(alloc, end as usize)?;
+    set(&mut free, start as usize, end as usize, true);
     Ok(free)
 }
 
-/// Takes the sectors from `first` on out of the free range at the index, which has them.
+/// The first of the lowest free sectors of that number that follow each other.
+fn first_fit(free: &Tree, sectors: u16) -> Option<u32>
+    requires summed { IsSummed free.now }
+    requires short { length (flags_of free.now) < 4294967296 }
+    requires some { 0 < sectors }
+    ensures { IsFirstFit (flags_of free.now) sectors result }
+{
+    let size = usize::from(sectors);
+    if runs_of(free).longest < size {
+        return None;
+    }
+    Some(first_run(free, size) as u32)
+}
+
+/// Whether so many sectors from `first` on are free.
+fn is_free(free: &Tree, first: u32, sectors: u16) -> bool
+    requires summed { IsSummed free.now }
+    requires within { first + sectors ≤ length (flags_of free.now) }
+    ensures yes { OnTrue result (AreFree (flags_of free.now) first (first + sectors)) }
+    ensures no { OnFalse result (AreFree (flags_of free.now) first (first + sectors) → ⊥) }
+{
+    let first = first as usize;
+    is_run(free, first, first + usize::from(sectors))
+}
+
+/// Takes so many sectors from `first` on, which are free.
 fn occupy(
-    free: &mut Vec<Range>,
+    free: &mut Tree,
     taken: &mut BTreeMap<u32, Taken>,
-    index: usize,
     first: u32,
     sectors: u16,
 ) -> Result<(), AllocError>
-    requires rises { RisesFrom 0 free.old.items }
-    requires holds { Holds free.old.items index first (first + sectors) }
-    requires some { 0 < sectors }
-    requires fits { first + sectors < 4294967296 }
-    ensures free { OnOk result (IsCut free.old.items first (first + sectors) free.new.items) }
+    requires summed { IsSummed free.old }
+    requires short { length (flags_of free.old) < 4294967296 }
+    requires within { first + sectors ≤ length (flags_of free.old) }
+    requires covered { AreFree (flags_of free.old) first (first + sectors) }
+    ensures free { OnOk result (IsCut (flags_of free.old) first (first + sectors) (flags_of free.new)) }
+    ensures summed { IsSummed free.new }
+    ensures len { length (flags_of free.new) ≡ length (flags_of free.old) }
     ensures taken { OnOk result (taken.new.entries ≡ with_range taken.old.entries first (fresh sectors)) }
     ensures ordered { IsStrictlySortedBy nat_cmp (keys_of taken.new.entries) }
-    ensures room { OnOk result (length free.new.items + length taken.new.entries ≤ vec_capacity free.new) }
-    ensures capacity { vec_capacity free.old ≤ vec_capacity free.new }
-    ensures err { OnErr result ((free.new.items ≡ free.old.items) × (taken.new.entries ≡ taken.old.entries)) }
+    ensures err { OnErr result ((flags_of free.new ≡ flags_of free.old) × (taken.new.entries ≡ taken.old.entries)) }
 {
-    let Some(room) = taken.len().checked_add(2) else {
-        return Err(AllocError);
-    };
-    free.reserve(room)?;
     let range = Taken {
         sectors,
         pins: 0,
         freed: Freed::Not,
     };
     taken.insert(first, range)?;
-    cut(free, index, first, first + u32::from(sectors));
+    let first = first as usize;
+    set(free, first, first + usize::from(sectors), false);
     Ok(())
 }
 
-/// Puts a taken range among the free ones.
-fn release(free: &mut Vec<Range>, taken: &mut BTreeMap<u32, Taken>, first: u32, sectors: u16)
-    requires rises { RisesFrom 0 free.old.items }
-    requires covered { AreTaken free.old.items first (first + sectors) }
-    requires some { 0 < sectors }
-    requires fits { first + sectors < 4294967296 }
-    requires room { vec_len free.old < vec_capacity free.old }
-    ensures free { IsPut free.old.items first (first + sectors) free.new.items }
-    ensures few { vec_len free.new ≤ vec_len free.old + 1 }
+/// Makes the sectors of a taken range free.
+fn release(free: &mut Tree, taken: &mut BTreeMap<u32, Taken>, first: u32, sectors: u16)
+    requires summed { IsSummed free.old }
+    requires short { length (flags_of free.old) < 4294967296 }
+    requires within { first + sectors ≤ length (flags_of free.old) }
+    requires covered { AreTaken (flags_of free.old) first (first + sectors) }
+    ensures free { IsPut (flags_of free.old) first (first + sectors) (flags_of free.new) }
+    ensures summed { IsSummed free.new }
+    ensures len { length (flags_of free.new) ≡ length (flags_of free.old) }
     ensures taken { taken.new.entries ≡ without_range taken.old.entries first }
     ensures ordered { IsStrictlySortedBy nat_cmp (keys_of taken.new.entries) }
-    ensures capacity { vec_capacity free.old ≤ vec_capacity free.new }
 {
     taken.remove(&first);
-    put(free, first, first + u32::from(sectors));
+    let first = first as usize;
+    set(free, first, first + usize::from(sectors), true);
 }

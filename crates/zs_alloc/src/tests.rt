@@ -122,6 +122,18 @@ fn takes_the_lowest_range_that_fits(rt: HostRuntime) -> Result<(), Fail> {
 }
 
 #[test]
+fn takes_a_range_that_lies_over_two_parts_of_the_tree(rt: HostRuntime) -> Result<(), Fail> {
+    let mut space = Space::new(rt.alloc(), &[200], 10)?;
+    assert_eq!(rt; claim(&mut space, 10, 80), Ok(()));
+    assert_eq!(rt; claim(&mut space, 110, 1), Ok(()));
+    assert_eq!(rt; take(&mut space, 0, 21), Ok(111));
+    assert_eq!(rt; take(&mut space, 0, 20), Ok(90));
+    assert_eq!(rt; take(&mut space, 0, 68), Ok(132));
+    assert_eq!(rt; take(&mut space, 0, 1), Err(SpaceFault::NoSpace));
+    Ok(())
+}
+
+#[test]
 fn claims_just_the_sectors_that_are_free(rt: HostRuntime) -> Result<(), Fail> {
     let mut space = Space::new(rt.alloc(), &[330], 296)?;
     assert_eq!(rt; claim(&mut space, 300, 4), Ok(()));

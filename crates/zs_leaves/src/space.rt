@@ -18,12 +18,13 @@ fn mirror(rt: &HostRuntime, sectors: u32) -> Result<Space, Fault>
     Ok(space)
 }
 
-/// Takes one sector of the first mirror.
-fn take(space: &mut Space) -> Result<(), Fault>
-    requires { 0 < length space.old }
+/// Takes so many sectors of the first mirror.
+fn take(space: &mut Space, sectors: u16) -> Result<(), Fault>
+    requires mirrors { 0 < length space.old }
+    requires some { 0 < sectors }
     ensures { length space.new ≡ length space.old }
 {
-    let _place = space.take(0, 1)?;
+    let _place = space.take(0, sectors)?;
     Ok(())
 }
 
@@ -37,16 +38,16 @@ fn claim(space: &mut Space, sector: u32) -> Result<(), Fault>
     Ok(())
 }
 
-/// A mirror of n sectors, each of which is taken, the lowest first; and one of twice as many, of which each second one
-/// is claimed, so that the free ranges are many. A claim looks its place up among the free ranges.
+/// A mirror of n sectors, each of which is taken, the lowest first; and one of which each second sector is claimed at its
+/// beginning, so that n holes of one sector stand before the first place for a block of eight.
 pub fn space_rows(rt: &HostRuntime, n: u32, rows: &mut Vec<Row>) -> Result<(), Fault> {
     let mut space = mirror(rt, n)?;
     let start = Instant::now(rt)?;
     for _ in 0..n {
-        take(&mut space)?;
+        take(&mut space, 1)?;
     }
     put(rt, rows, "zs_alloc take", u64::from(n), start)?;
-    let mut space = mirror(rt, n.saturating_mul(2))?;
+    let mut space = mirror(rt, n.saturating_mul(10))?;
     let start = Instant::now(rt)?;
     for i in 0..n {
         claim(&mut space, i.saturating_mul(2).saturating_add(START))?;
@@ -55,6 +56,17 @@ pub fn space_rows(rt: &HostRuntime, n: u32, rows: &mut Vec<Row>) -> Result<(), F
         rt,
         rows,
         "zs_alloc claim, many free ranges",
+        u64::from(n),
+        start,
+    )?;
+    let start = Instant::now(rt)?;
+    for _ in 0..n {
+        take(&mut space, 8)?;
+    }
+    put(
+        rt,
+        rows,
+        "zs_alloc take, behind many holes",
         u64::from(n),
         start,
     )?;
