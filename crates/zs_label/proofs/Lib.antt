@@ -1,0 +1,10 @@
+pub mod Spelling
+pub mod Bodies
+pub mod Agreed
+pub mod Making
+pub mod Moments
+pub mod Gates
+pub mod Puts
+pub mod Reading
+pub mod Others
+pub mod TestSets

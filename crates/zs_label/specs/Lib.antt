@@ -1,0 +1,10 @@
+pub mod Layout
+pub mod Label
+pub mod Laws
+pub mod Best
+pub mod Steps
+pub mod Leaving
+pub mod Slots
+pub mod Images
+pub mod Looks
+pub mod Rest
