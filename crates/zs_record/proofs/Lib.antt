@@ -1,0 +1,9 @@
+pub mod Loops
+pub mod Parts
+pub mod Items
+pub mod Pairs
+pub mod Masks
+pub mod Todos
+pub mod Fields
+pub mod Spans
+pub mod Entries

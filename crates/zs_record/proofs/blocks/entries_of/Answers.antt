@@ -1,0 +1,17 @@
+use Rattle.std.proofs.Common.{◌≡◌, ◌++◌, ◌∷◌, [], ◌+◌, ℕ, Some, None, ap, ◌∙◌}
+use Rattle.std.proofs.lemmas.Result.{err_from_is_err_and}
+use Rattle.zs_record.specs.Blocks.{entry_of, entries_of}
+use Rattle.zs_record.proofs.Loops.{goes_on, ends, is_done}
+use Rattle.zs_record.proofs.blocks.entries_of.Goals as goal
+
+pub returns-in_err-entry : goal.returns-in_err-entry
+returns-in_err-entry c =
+    let p = err_from_is_err_and c.from_residual-in_err-entry.result c.from_residual-in_err-entry.ensures.1 in
+    rw (p.1, p.2) (ends (entry_of) (λ before e. Some e.0) c.loop.entries.items c.args.count c.loop.counter c.loop.last c.loop.rest.now c.in_err-entry.field-0.0 (entries_of c.args.count None c.args.bytes.now) c.loop-test.true c.in_err-entry.ensures c.loop.invariant)
+
+pub loop-preserved : goal.loop-preserved
+loop-preserved c =
+    rw (c.in_ok-push.ensures.items) (goes_on (entry_of) (λ before e. Some e.0) c.loop.entries.items c.args.count c.loop.counter c.loop.last c.loop.rest.now (c.in_ok-entry.entry) c.in_ok-entry.after.now (entries_of c.args.count None c.args.bytes.now) c.loop-test.true c.in_ok-entry.ensures c.loop.invariant)
+
+pub returns : goal.returns
+returns c = is_done (entry_of) (λ before e. Some e.0) c.loop.entries.items c.args.count c.loop.counter c.loop.last c.loop.rest.now (entries_of c.args.count None c.args.bytes.now) c.loop-test.false c.loop.invariant

@@ -1,0 +1,15 @@
+pub mod Blocks
+pub mod Checked
+pub mod Head
+pub mod Laws
+pub mod Logs
+pub mod Names
+pub mod Numbers
+pub mod Reading
+pub mod Scan
+pub mod ScanSpelling
+pub mod Sets
+pub mod Spelling
+pub mod Stored
+pub mod StoredSpelling
+pub mod Todo
