@@ -36,8 +36,6 @@ mod scanning;
 mod staging;
 mod status;
 mod tasks;
-#[cfg(test)]
-mod tests;
 
 pub use pool::{Pool, PoolFault, Verdicts};
 pub use zs_machine::{Event, OpenRead, ReadPlan, Shape, Stage, Step, data_start};
