@@ -9,3 +9,6 @@ invariant-loop-i l = 0 < length l.space
 
 abbrev pub invariant-loop-i-2 : goal.invariant-loop-i-2
 invariant-loop-i-2 l = 0 < length l.space
+
+abbrev pub invariant-loop-2 : goal.invariant-loop-2
+invariant-loop-2 l = 0 < length l.space
