@@ -526,7 +526,8 @@ impl Pool {
     pub fn hold(&mut self, by: u8, vdev: u8, n: u32) -> Result<Batch, AllocError>
         requires some { 1 ≤ n }
         requires up { self.old.core.state.suspended ≡ false }
-        ensures event { IfOk result (λ b. AddsEvent by (Step.Hold b.number vdev b.online (pieces_in b.items)) Reply.Nothing self.old.history self.new.history) }
+        ensures event { IfOk result
+            (λ b. AddsEvent by (Step.Hold b.number vdev b.online (pieces_in b.items)) Reply.Nothing self.old.history self.new.history) }
         ensures batch { IfOk result
             (λ b. b
             ≡ record {

@@ -125,7 +125,9 @@ fn put_below<T: Blocks>(
     held: T,
 ) -> Result<(), AllocError>
     requires { at < vec_len sets.old }
-    ensures ok { OnOk result (map (dataset_of T.entries) sets.new.items ≡ below_at (map (dataset_of T.entries) sets.old.items) at id label t (T.entries held)) }
+    ensures ok { OnOk result
+        (map (dataset_of T.entries) sets.new.items
+        ≡ below_at (map (dataset_of T.entries) sets.old.items) at id label t (T.entries held)) }
     ensures err { OnErr result (sets.new.items ≡ sets.old.items) }
 {
     let head = &sets[at];

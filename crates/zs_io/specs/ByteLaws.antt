@@ -21,8 +21,8 @@ left_by_bytes Looked now could wrote are each c left = each c left
 left_by_bytes (Wrote at bytes kept) now could wrote are each c left = left.2.values wrote (each left.0 left.1)
 left_by_bytes Synced now could wrote are each c left = subst AreBytes (sym left) are
 
-left_after_bytes : (calls : List Call) (now : List ℕ) (could : List ℕ → Type 0) → All Writes calls → AreBytes now → ((c : List ℕ) → could c → AreBytes c)
-    → (c : List ℕ) → left_after calls now could c → AreBytes c
+left_after_bytes : (calls : List Call) (now : List ℕ) (could : List ℕ → Type 0) → All Writes calls → AreBytes now
+    → ((c : List ℕ) → could c → AreBytes c) → (c : List ℕ) → left_after calls now could c → AreBytes c
 left_after_bytes [] now could wrote are each c left = each c left
 left_after_bytes (e ∷ calls) now could wrote are each c left =
     left_after_bytes calls (after_call e now) (left_by e now could) (All-tail Writes e calls wrote) (after_call_bytes e now (All-head Writes e calls wrote) are)

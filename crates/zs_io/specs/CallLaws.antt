@@ -32,7 +32,8 @@ overlaid-nil at [] = refl
 overlaid-nil zero (x ∷ old) = refl
 overlaid-nil (suc at) (x ∷ old) = ap (λ (l : List ℕ). x ∷ l) (overlaid-nil at old)
 
-overlaid_one : (at b : ℕ) (rest old : List ℕ) → (get_or (overlaid at (b ∷ rest) old) at 0 ≡ get_or old at 0) ⊎ (get_or (overlaid at (b ∷ rest) old) at 0 ≡ b)
+overlaid_one : (at b : ℕ) (rest old : List ℕ)
+    → (get_or (overlaid at (b ∷ rest) old) at 0 ≡ get_or old at 0) ⊎ (get_or (overlaid at (b ∷ rest) old) at 0 ≡ b)
 overlaid_one at b rest [] = inl refl
 overlaid_one zero b rest (x ∷ old) = inr refl
 overlaid_one (suc at) b rest (x ∷ old) = overlaid_one at b rest old
@@ -65,7 +66,8 @@ overlaid_torn at bytes k old = record {
   values = λ are were. overlaid_bytes at (take k bytes) old (All-take IsByte k bytes are) were;
 }
 
-overlaid_to : (at : ℕ) (bytes old : List ℕ) (m : ℕ) → at + length bytes ≡ m → m ≤ length old → overlaid at bytes old ≡ take at old ++ bytes ++ drop m old
+overlaid_to : (at : ℕ) (bytes old : List ℕ) (m : ℕ) → at + length bytes ≡ m → m ≤ length old
+    → overlaid at bytes old ≡ take at old ++ bytes ++ drop m old
 overlaid_to zero [] [] zero is fits = refl
 overlaid_to zero [] [] (suc m) is fits = absurd (omega arith)
 overlaid_to zero (b ∷ bytes) [] m is fits = absurd (omega arith)

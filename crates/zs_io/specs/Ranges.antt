@@ -42,7 +42,8 @@ part_after x y i j n same le = part x ∙ ap (λ (l : List ℕ). take (j - i) (d
 pub torn_before : (at : ℕ) (bytes old new : List ℕ) (i j : ℕ) → Torn at bytes old new → j ≤ at → slice_range new i j ≡ slice_range old i j
 torn_before at bytes old new i j torn le = part_before new old i j at torn.before le
 
-pub torn_after : (at : ℕ) (bytes old new : List ℕ) (i j : ℕ) → Torn at bytes old new → at + length bytes ≤ i → slice_range new i j ≡ slice_range old i j
+pub torn_after : (at : ℕ) (bytes old new : List ℕ) (i j : ℕ) → Torn at bytes old new → at + length bytes ≤ i
+    → slice_range new i j ≡ slice_range old i j
 torn_after at bytes old new i j torn le = part_after new old i j (at + length bytes) torn.after le
 
 -- the bytes that were written are read back
