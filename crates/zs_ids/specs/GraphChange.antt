@@ -100,12 +100,13 @@ swapped g a b = map (λ d. holding a.id b.entries (holding b.id a.entries d)) g
 abbrev pub applied : Graph → Dataset → List (Key × Bp) → Graph
 applied g head changes = map (holding head.id (entries_with head.entries changes)) g
 
--- blocks written in t may be put over those of a head: its parent is older, the blocks are born in t, and with them the
--- head is in order and all blocks lie apart
+-- blocks written in t may be put over those of a head: its parent and its blocks are older, the new ones are born in t, and
+-- with them the head is in order and all blocks lie apart
 pub record MayPut (g : Graph) (head : Dataset) (changes : List (Key × Bp)) (t : ℕ) : Type 0 where
   pub here : Has g head
   pub is_head : head.head ≡ true
   pub later : start_of g head.parent < t
+  pub older : (e : Key × Bp) → Has head.entries e → e.1.birth < t
   pub born : (e : Key × Bp) → Has changes e → e.1.birth ≡ t
   pub in_order : IsInKeyOrder changes
   pub blocks : HasBlocks (record head { entries = entries_with head.entries changes }) t

@@ -1,7 +1,7 @@
 //! A dataset's map from keys to block pointers.
 
 ghost use Rattle.std.specs.Prelude.{◌≡◌, ◌<◌, [], List, length, map, OnOk, OnErr, IfOk};
-ghost use Rattle.zs_ids.specs.Blocks.{bp_at, first_from, replaced, IsInKeyOrder};
+ghost use Rattle.zs_ids.specs.Blocks.{bp_at, entries_with, first_from, replaced, IsInKeyOrder};
 
 use crate::block::Bp;
 use crate::key::Key;
@@ -32,6 +32,13 @@ pub trait Blocks: Drop {
     fn replace(&mut self, key: Key, bp: Bp) -> Result<Option<Bp>, AllocError>
         ensures ok { IfOk result (λ old. old ≡ bp_at (entries self.old) key) }
         ensures put { OnOk result (entries self.new ≡ replaced (entries self.old) key bp) }
+        ensures err { OnErr result (entries self.new ≡ entries self.old) };
+
+    /// Puts pointers at keys that rise. After want of memory the map is as it was. Costs as many steps as as many calls of
+    /// `replace`.
+    fn replace_all(&mut self, alloc: Global, changes: &[(Key, Bp)]) -> Result<(), AllocError>
+        requires rise { IsInKeyOrder changes.now }
+        ensures put { OnOk result (entries self.new ≡ entries_with (entries self.old) changes.now) }
         ensures err { OnErr result (entries self.new ≡ entries self.old) };
 
     /// An equal map of its own.
