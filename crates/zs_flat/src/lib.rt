@@ -4,17 +4,19 @@
 //! and tests of the crates that are generic in a map use it.
 //! Model: the list of the map's entries in order of key.
 //! Promise: each call of `Blocks` is that of one finite map; the keys always rise; after want of memory the
-//! map is as it was. `get` and `replace` cost O(log n), `next_from` O(log n) and a step for each entry that it
-//! passes because of its birth, `copy` O(n).
+//! map is as it was. `get` and `replace` cost O(log n), `replace_all` O(log n) for each change, `next_from` O(log n)
+//! and a step for each entry that it passes because of its birth, `copy` O(n).
 //!
 //! To change what a map must do see `zs_ids::Blocks`. A map whose copies share their entries is a type beside
 //! this one, and nothing above has to know which of the two it has.
 #![tactic(auto)]
 
-ghost use Rattle.std.specs.Prelude.{◌≡◌, []};
+ghost use Rattle.std.specs.Prelude.{◌≡◌, [], map, IfOk};
 ghost use Rattle.std.specs.BTreeMap.{IsOrdered};
 ghost use Rattle.std.proofs.Props.{props};
 ghost use Rattle.zs_ids.specs.Key.{key_cmp};
+ghost use Rattle.zs_ids.specs.Blocks.{bp_at};
+ghost use Rattle.zs_flat.specs.Restoring.{Restores, TakesBack};
 
 use std::alloc::{AllocError, Global};
 use std::collections::BTreeMap;
@@ -36,6 +38,43 @@ impl Flat {
             map: BTreeMap::new(alloc),
         }
     }
+
+    /// Takes changes back, of which some were put, by what stood at their keys before.
+    fn take_back(&mut self, changes: &[(Key, Bp)], before: &[Option<Bp>])
+        ensures { TakesBack self.old.map changes.now before.now self.new.map }
+    {
+        for ((key, _), was) in changes.iter().zip(before) {
+            self.restore(*key, *was);
+        }
+    }
+
+    /// Puts back what stood at the key. Where something did, something stands there now, so no memory is wanting.
+    fn restore(&mut self, key: Key, was: Option<Bp>)
+        ensures { Restores self.old.map key was self.new.map }
+    {
+        match was {
+            Some(bp) => {
+                let _ = self.map.insert(key, bp);
+            }
+            None => {
+                self.map.remove(&key);
+            }
+        }
+    }
+}
+
+/// What stands at the keys of some changes.
+fn pointers_at(
+    alloc: Global,
+    blocks: &BTreeMap<Key, Bp>,
+    changes: &[(Key, Bp)],
+) -> Result<Vec<Option<Bp>>, AllocError>
+    ensures { IfOk result (λ old. old.items ≡ map (λ c. bp_at blocks.now.entries c.0) changes.now) }
+{
+    changes
+        .iter()
+        .map(|change| blocks.get(&change.0).copied())
+        .collect(alloc)
 }
 
 impl Blocks for Flat {
@@ -61,6 +100,20 @@ impl Blocks for Flat {
     fn replace(&mut self, key: Key, bp: Bp) -> Result<Option<Bp>, AllocError> {
         let old = self.map.insert(key, bp)?;
         Ok(old)
+    }
+
+    fn replace_all(&mut self, alloc: Global, changes: &[(Key, Bp)]) -> Result<(), AllocError> {
+        let before = pointers_at(alloc, &self.map, changes)?;
+        for (key, bp) in changes {
+            match self.map.insert(*key, *bp) {
+                Ok(_) => {}
+                Err(_) => {
+                    self.take_back(changes, &before);
+                    return Err(AllocError);
+                }
+            }
+        }
+        Ok(())
     }
 
     fn copy(&self) -> Result<Self, AllocError> {
