@@ -1,10 +1,15 @@
+ghost use Rattle.std.specs.Prelude.{◌≡◌};
+ghost use Rattle.zs_ids.specs.Key.{record_key};
+
 use crate::Flat;
 use std::alloc::AllocError;
 use std::test::Fail;
 use zs_ids::{Blocks, Bp, Key, Place};
 
 /// The key of record `leaf` of object `object`.
-fn record(object: u16, leaf: u32) -> Key {
+fn record(object: u16, leaf: u32) -> Key
+    ensures { result ≡ record_key object leaf }
+{
     Key {
         object,
         rank: 1,
@@ -79,6 +84,26 @@ fn goes_on_in_order_of_key(rt: HostRuntime) -> Result<(), Fail> {
     );
     assert_eq!(rt; map.next_from(record(1, 3), 0), None);
     assert_eq!(rt; map.next_from(Key::ROOT, 5), None);
+    Ok(())
+}
+
+#[test]
+fn takes_many_changes_at_once(rt: HostRuntime) -> Result<(), Fail> {
+    let mut map = Flat::new(rt.alloc());
+    tree(&mut map)?;
+    let changes = [
+        (Key::ROOT, pointer(56, 7)),
+        (record(1, 2), pointer(64, 7)),
+        (record(2, 0), pointer(72, 7)),
+    ];
+    map.replace_all(rt.alloc(), &changes)?;
+    assert_eq!(rt; map.len(), 5);
+    assert_eq!(rt; map.get(Key::ROOT), Some(pointer(56, 7)));
+    assert_eq!(rt; map.get(record(1, 1)), Some(pointer(24, 3)));
+    assert_eq!(rt; map.get(record(1, 2)), Some(pointer(64, 7)));
+    assert_eq!(rt; map.get(record(2, 0)), Some(pointer(72, 7)));
+    map.replace_all(rt.alloc(), &[])?;
+    assert_eq!(rt; map.len(), 5);
     Ok(())
 }
 
