@@ -5,7 +5,7 @@ use Rattle.std.proofs.lemmas.Bool.{true≢false}
 use Rattle.zs_ids.specs.declared.key.Key.{Key}
 use Rattle.zs_ids.specs.declared.block.Bp.{Bp}
 use Rattle.zs_ids.specs.Graph.{Has, Dataset, Graph}
-use Rattle.zs_ids.specs.GraphValid.{origin, IsTree, HasBlocks}
+use Rattle.zs_ids.specs.GraphValid.{origin, IsTree, HasBlocks, IsValid}
 use Rattle.zs_graph.specs.View.{IsGraph}
 use Rattle.zs_graph.proofs.Lists.{some≢none}
 use mathlib.Core.Logic.{inl, inr}
@@ -13,7 +13,7 @@ use mathlib.Core.Logic.{inl, inr}
 abbrev alone : Graph
 alone = origin ∷ []
 
-is_origin : (d : Dataset) → Has alone d → origin ≡ d
+pub is_origin : (d : Dataset) → Has alone d → origin ≡ d
 is_origin d (inl e) = e
 is_origin d (inr none) = absurd none
 
@@ -30,7 +30,7 @@ no_blocks = record {
   parents = λ e h. absurd h;
 }
 
-nothing_held : (d : Dataset) (e : Key × Bp) → Has alone d → Has d.entries e → ⊥
+pub nothing_held : (d : Dataset) (e : Key × Bp) → Has alone d → Has d.entries e → ⊥
 nothing_held d e i h = subst (λ (x : Dataset). Has x.entries e) (sym (is_origin d i)) h
 
 tree : IsTree alone 1
@@ -44,15 +44,18 @@ tree = record {
   heads = λ d h is. absurd (true≢false (sym is ∙ ap (λ (x : Dataset). x.head) (sym (is_origin d h))));
 }
 
+pub origin_is_valid : IsValid alone 1
+origin_is_valid = record {
+  tree = tree;
+  holds = λ d h. subst (λ (x : Dataset). HasBlocks x 1) (is_origin d h) no_blocks;
+  shares = λ d parent i j is. absurd (some≢none parent.id (sym is ∙ ap (λ (x : Dataset). x.parent) (sym (is_origin d i))));
+  apart = λ c d e f hc hd o. absurd (nothing_held c e hc.here hc.holds);
+}
+
 pub origin_graph : IsGraph (record { sets = alone; next = 1 })
 origin_graph = record {
   last = 1;
-  valid = record {
-    tree = tree;
-    holds = λ d h. subst (λ (x : Dataset). HasBlocks x 1) (is_origin d h) no_blocks;
-    shares = λ d parent i j is. absurd (some≢none parent.id (sym is ∙ ap (λ (x : Dataset). x.parent) (sym (is_origin d i))));
-    apart = λ c d e f hc hd o. absurd (nothing_held c e hc.here hc.holds);
-  };
+  valid = origin_is_valid;
   below = λ d h. let c : 0 ≡ d.id.0 = ap (λ (x : Dataset). x.id.0) (is_origin d h) in omega (arith, c);
 }
 

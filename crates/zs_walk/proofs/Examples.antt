@@ -8,12 +8,13 @@ use Rattle.zs_ids.specs.declared.block.Bp.{Bp}
 use Rattle.zs_ids.specs.declared.block.Piece.{Piece}
 use Rattle.zs_ids.specs.Key.{root_key, dnode_key, record_key, parent_of}
 use Rattle.zs_ids.specs.Graph.{Has, Dataset, Graph, pieces_of}
-use Rattle.zs_ids.specs.GraphValid.{origin, HasForm, IsBlock, HasBlock, HasBlocks, IsTree, Overlap, AreApart, LiesIn, IsWithin, Valid}
+use Rattle.zs_ids.specs.GraphValid.{origin, HasForm, IsBlock, HasBlock, HasBlocks, Overlap, AreApart, LiesIn, IsWithin, Valid}
 use Rattle.zs_ids.specs.GraphValid.IsBlock.{root as root_block, dnodes as dnode_block, leaf as record_block}
 use Rattle.zs_phys.specs.declared.scope.Scope.{Scope}
 use Rattle.zs_phys.specs.declared.phys.Phys.{Phys}
 use Rattle.zs_phys.specs.Handlers.{handled, Event as events}
 use Rattle.zs_cover.specs.Laws.{IsCovered, MayStart, started}
+use Rattle.zs_graph.proofs.Origin.{is_origin, nothing_held, origin_is_valid}
 use Rattle.zs_graph.proofs.Lists.{has-left, has-right, some_is, some≢none}
 use Rattle.zs_cover.proofs.Starts.{start_keeps}
 use Rattle.zs_cover.proofs.Rests.{later_keeps}
@@ -73,45 +74,9 @@ each P a b c e (inr (inr (inl is))) = subst P is c
 each P a b c e (inr (inr (inr none))) = absurd none
 
 -- the origin alone is valid
-is_origin : (d : Dataset) → Has (origin ∷ []) d → origin ≡ d
-is_origin d (inl e) = e
-is_origin d (inr none) = absurd none
-
-no_blocks : HasBlocks origin 1
-unfolding IsStrictlySortedBy
-no_blocks = record {
-  in_order = tt;
-  births = λ e h. absurd h;
-  levels = λ object. 1;
-  at_most_four = λ object. omega arith;
-  size = λ object. 1;
-  is_size = λ object. inl refl;
-  blocks = λ e h. absurd h;
-  parents = λ e h. absurd h;
-}
-
-nothing_held : (d : Dataset) (e : Key × Bp) → Has (origin ∷ []) d → Has d.entries e → ⊥
-nothing_held d e i h = subst (λ (x : Dataset). Has x.entries e) (sym (is_origin d i)) h
-
-origin_tree : IsTree (origin ∷ []) 1
-origin_tree = record {
-  root = inl refl;
-  stands = λ d h. inl (sym (is_origin d h));
-  in_order = (λ x h. absurd h, tt);
-  few = omega arith;
-  names = λ a b i j heads owners labels. ap (λ (x : Dataset). x.id) (sym (is_origin a i) ∙ is_origin b j);
-  created = λ d h. let c : 1 ≡ d.creation = ap (λ (x : Dataset). x.creation) (is_origin d h) in omega (arith, c);
-  heads = λ d h is. absurd (true≢false (sym is ∙ ap (λ (x : Dataset). x.head) (sym (is_origin d h))));
-}
-
 origin_valid : Valid room (origin ∷ []) 1
 origin_valid = record {
-  graph = record {
-    tree = origin_tree;
-    holds = λ d h. subst (λ (x : Dataset). HasBlocks x 1) (is_origin d h) no_blocks;
-    shares = λ d parent i j is. absurd (some≢none parent.id (sym is ∙ ap (λ (x : Dataset). x.parent) (sym (is_origin d i))));
-    apart = λ c d e f hc hd o. absurd (nothing_held c e hc.here hc.holds);
-  };
+  graph = origin_is_valid;
   within = record {
     places = λ d i e h p is. absurd (nothing_held d e i h);
     few = record { all = []; few = omega arith; each = λ p live. absurd (nothing_held live.holder live.holds.entry live.is_dataset live.holds.is_entry) };
@@ -179,6 +144,7 @@ full_head =
         here = inr (inl refl);
         is_head = refl;
         later = omega arith;
+        older = λ e h. absurd h;
         born = λ e h. each (λ x. x.1.birth ≡ 3) (born 296 8 1) (born 304 8 0) (born 312 1 0) e h;
         in_order = ((refl, (refl, tt)), ((refl, tt), (tt, tt)));
         blocks = three_blocks;
