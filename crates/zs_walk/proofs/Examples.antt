@@ -10,6 +10,9 @@ use Rattle.zs_ids.specs.Key.{root_key, dnode_key, record_key, parent_of}
 use Rattle.zs_ids.specs.Graph.{Has, Dataset, Graph, pieces_of}
 use Rattle.zs_ids.specs.GraphValid.{origin, HasForm, IsBlock, HasBlock, HasBlocks, Overlap, AreApart, LiesIn, IsWithin, Valid}
 use Rattle.zs_ids.specs.GraphValid.IsBlock.{root as root_block, dnodes as dnode_block, leaf as record_block}
+use Rattle.zs_ids.specs.declared.dataset.DsId.{DsId}
+use Rattle.zs_graph.specs.View.{GraphView}
+use Rattle.zs_graph.specs.Made.{IsFsMade}
 use Rattle.zs_phys.specs.declared.scope.Scope.{Scope}
 use Rattle.zs_phys.specs.declared.phys.Phys.{Phys}
 use Rattle.zs_phys.specs.Handlers.{handled, Event as events}
@@ -97,6 +100,13 @@ empty_head =
       room = omega arith;
     }) (λ p live is. is)
 
+-- a graph of datasets, to which it was added, is so
+pub empty_head_made : (old new : GraphView) (id : DsId) → old ≡ record { sets = origin ∷ []; next = 1 } → IsFsMade old name id new → new.sets ≡ one_head []
+empty_head_made old new id is made = rw (made.now, same_id, is) refl
+  where
+    same_id : id ≡ head_id
+    same_id = ap (λ (n : ℕ). record head_id { 0 = n }) (made.added.number ∙ ap (λ (v : GraphView). v.next) is)
+
 -- its record is written in 3
 three_blocks : HasBlocks (head_with origin.id one_record) 3
 unfolding IsStrictlySortedBy
@@ -158,6 +168,10 @@ walk_of : (g : Graph) (n h max : ℕ) → n ≤ h → max ≤ h → Valid room g
 walk_of g n h max early le valid =
     let c = start_keeps room g n h (scrub_up_to max) 0 (λ p. true) early valid (may_start max h le) in
     record { room = room; n = n; h = h; early = early; valid = valid; sound = c.sound }
+
+pub empty_head_walks : (g : Graph) (scope : Scope) (s : Phys) → g ≡ one_head [] → scope ≡ scrub_up_to 4 → s ≡ started 0 → MayWalk g scope s
+empty_head_walks g scope s is scope_is s_is =
+    rw (is, scope_is, s_is) (walk_of (one_head []) 2 4 4 (omega arith) (omega arith) empty_head.valid)
 
 pub head_walks : (entries : List (Key × Bp)) (scope : Scope) (s : Phys) → entries ≡ one_record → scope ≡ scrub_up_to 4 → s ≡ started 0 → MayWalk (one_head entries) scope s
 head_walks entries scope s is scope_is s_is =

@@ -3,7 +3,8 @@
 ghost use Rattle.std.specs.Prelude.{◌≡◌, find};
 ghost use Rattle.zs_ids.specs.GraphTree.{dataset_at, children_of, next_in, taken_at, is_above};
 
-use zs_ids::{Bp, DsId, Key};
+use zs_graph::Graph;
+use zs_ids::{Blocks, Bp, DsId, Key};
 
 /// The datasets of a pool, in whatever form. Contracts see them as the list of datasets, in order of id.
 pub trait Datasets {
@@ -25,4 +26,23 @@ pub trait Datasets {
     /// The first dataset, in order of id, that stands on this one; where `after` is given, the first behind that.
     fn child_after(&self, id: DsId, after: Option<DsId>) -> Option<DsId>
         ensures { result ≡ find (is_above after) (children_of (datasets self.now) id) };
+}
+
+impl<T: Blocks> Datasets for Graph<T> {
+    ghost datasets = { λ g. g.sets };
+
+    fn next_block(&self, id: DsId, from: Key, above: u64) -> Option<(Key, Bp)> {
+        match self.blocks(id) {
+            None => None,
+            Some(blocks) => blocks.next_from(from, above),
+        }
+    }
+
+    fn creation(&self, id: DsId) -> Option<u64> {
+        Graph::creation(self, id)
+    }
+
+    fn child_after(&self, id: DsId, after: Option<DsId>) -> Option<DsId> {
+        Graph::child_after(self, id, after)
+    }
 }

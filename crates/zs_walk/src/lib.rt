@@ -2,8 +2,8 @@
 //!
 //! Layer: above the scan state (`zs_phys`) and the laws of coverage (`zs_cover`), below the scan. After the passes of
 //! `dsl_scan_visit` and `dsl_scan_visitds` of OpenZFS.
-//! Model: the datasets are the plain list that contracts speak of, in whatever form they are kept (`Datasets`); the
-//! state of the scan is the record of its fields.
+//! Model: the datasets are the plain list that contracts speak of, in whatever form they are kept (`Datasets`), as the graph
+//! of `zs_graph`; the state of the scan is the record of its fields.
 //! Promise: in a valid graph, and a state that belongs to it, `visit` answers the one turn that comes, and `advance`
 //! makes of the state exactly what that turn makes of it. Neither takes memory. Each turn but the empty one leaves fewer
 //! turns (`specs/Left`), so that a walk comes to its end.

@@ -1,6 +1,6 @@
-//! Walks over three small graphs, with ample memory.
+//! Walks over small graphs, with ample memory.
 
-ghost use Rattle.std.specs.Prelude.{◌≡◌, IfOk};
+ghost use Rattle.std.specs.Prelude.{◌≡◌, [], IfOk};
 ghost use Rattle.zs_cover.specs.Laws.{started};
 ghost use Rattle.zs_walk.specs.Examples.{block, head_and_clone, head_and_snapshot, one_head, one_record, scrub_up_to};
 ghost use Rattle.zs_walk.specs.Left.{turns_left};
@@ -10,7 +10,8 @@ use crate::laws::{left_law, one_step_law, rises_law};
 use crate::{Datasets, advance, visit};
 use std::alloc::{AllocError, Global};
 use zs_flat::Flat;
-use zs_ids::{Blocks, Bp, DsId, Key, Place, Seq};
+use zs_graph::{Graph, GraphFault};
+use zs_ids::{Blocks, Bp, DsId, Key, Name, Place, Seq};
 use zs_phys::{At, Kind, Phys, Scope, Status, Step, Todo};
 use zs_ranges::TxgSet;
 
@@ -214,6 +215,20 @@ fn start(alloc: Global) -> Result<Phys, AllocError>
     Ok(phys)
 }
 
+/// The origin, and a head without blocks on it.
+#[tactic(auto, using(crate::proofs::Examples::empty_head_made))]
+fn empty_head(alloc: Global) -> Result<Graph<Flat>, GraphFault>
+    ensures { IfOk result (λ g. g.sets ≡ one_head []) }
+{
+    let mut graph: Graph<Flat> = Graph::new(alloc)?;
+    let name = Name {
+        len: 1,
+        bytes: [0; 12],
+    };
+    graph.make_fs(&name)?;
+    Ok(graph)
+}
+
 /// Makes one turn behind the other, and answers whether they were just these.
 fn is_walk<G: Datasets>(graph: &G, scope: &Scope, phys: &mut Phys, want: &[Step]) -> bool
     requires { MayWalk (G.datasets graph.now) scope.now phys.old }
@@ -256,6 +271,25 @@ fn walks_a_head_in_seven_turns(rt: HostRuntime) -> Result<(), AllocError> {
     ];
     assert!(rt; is_walk(&graph, &scope, &mut phys, &turns));
     assert!(rt; phys.at == At::Nowhere && phys.todo.len() == 0);
+    Ok(())
+}
+
+#[test]
+#[tactic(auto, using(crate::proofs::Examples::empty_head_walks))]
+fn walks_a_graph_of_datasets(rt: HostRuntime) -> Result<(), AllocError> {
+    let Ok(graph) = empty_head(rt.alloc()) else {
+        return Ok(());
+    };
+    let scope = scrub(rt.alloc(), 4)?;
+    let mut phys = start(rt.alloc())?;
+    let turns = [
+        Step::Enter(DsId::ORIGIN, 0),
+        Step::End(DsId::ORIGIN),
+        Step::Enter(HEAD, 1),
+        Step::End(HEAD),
+        Step::Nothing,
+    ];
+    assert!(rt; is_walk(&graph, &scope, &mut phys, &turns));
     Ok(())
 }
 
