@@ -1,5 +1,5 @@
 -- What ties a scan to the datasets that it walks: it covers them, and what waits or flies is live.
-use Rattle.std.specs.Prelude.{◌≡◌, ℕ, ◌≤◌, ◌++◌, true, false, List, [], ◌∷◌, Some}
+use Rattle.std.specs.Prelude.{◌≡◌, ℕ, ◌≤◌, ◌++◌, ◌⊎◌, true, false, List, [], ◌∷◌, Some}
 use Rattle.zs_ids.specs.declared.key.Key.{Key}
 use Rattle.zs_ids.specs.declared.block.Bp.{Bp}
 use Rattle.zs_ids.specs.declared.block.Piece.{Piece}
@@ -18,7 +18,15 @@ use Rattle.zs_scan.specs.View.{ScanView, mark_of, is_done}
 -- the pieces that wait and those that fly are live, and their items have the size and sum of the piece's pointer
 pub record AreLive (g : Graph) (v : ScanView) : Type 0 where
   pub waiting : (e : Piece × Item) → Has v.waiting e → IsOfBlock g e.1.piece e.1.sectors e.1.sum
-  pub flying : (b : Batch) (i : Item) → Has v.flight b → Has b.items i → mark_of v.marks i.piece ≡ Some (Some b.number) → IsOfBlock g i.piece i.sectors i.sum
+  pub flying : (b : Batch) (i : Item) → Has v.flight b → Has b.items i → mark_of v.marks i.piece ≡ Some (Some b.number)
+      → IsOfBlock g i.piece i.sectors i.sum
+
+-- what waits or flies is of a block that is live, with its size and sum, or is one of these pieces, none of which is live
+pub record AreLiveBut (gone : List Piece) (g : Graph) (v : ScanView) : Type 0 where
+  pub dead : (p : Piece) → Has gone p → IsLive g p → ⊥
+  pub waiting : (e : Piece × Item) → Has v.waiting e → Has gone e.1.piece ⊎ IsOfBlock g e.1.piece e.1.sectors e.1.sum
+  pub flying : (b : Batch) (i : Item) → Has v.flight b → Has b.items i → mark_of v.marks i.piece ≡ Some (Some b.number)
+      → Has gone i.piece ⊎ IsOfBlock g i.piece i.sectors i.sum
 
 -- an item lies in the space of its mirror, and has the size of a block
 pub record IsInRoom (room : Room) (item : Item) : Type 0 where
@@ -38,6 +46,12 @@ RoomLaw =
 pub record IsScanOf (room : Room) (g : Graph) (n h : ℕ) (v : ScanView) : Type 0 where
   pub covered : IsCovered room g n h v.scope v.run (is_done v)
   pub live : AreLive g v
+  pub in_room : (b : Batch) (i : Item) → Has v.flight b → Has b.items i → IsInRoom room i
+
+-- the scan is the datasets' own but for these pieces, which were freed and of which it has not been told
+pub record IsScanBut (gone : List Piece) (room : Room) (g : Graph) (n h : ℕ) (v : ScanView) : Type 0 where
+  pub covered : IsCovered room g n h v.scope v.run (is_done v)
+  pub live : AreLiveBut gone g v
   pub in_room : (b : Batch) (i : Item) → Has v.flight b → Has b.items i → IsInRoom room i
 
 -- a call keeps the scan the datasets' own

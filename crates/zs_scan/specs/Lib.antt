@@ -4,3 +4,4 @@ pub mod Steps
 pub mod Walks
 pub mod Covered
 pub mod Flight
+pub mod Changes

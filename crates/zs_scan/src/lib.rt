@@ -32,6 +32,7 @@
 
 pub mod batch;
 mod flight;
+pub mod handlers;
 mod landing;
 pub mod laws;
 mod marks;

@@ -319,7 +319,8 @@ impl Scan {
         ensures done { result ≡ true → self.new ≡ finished self.old }
         ensures rest { result ≡ false → self.new ≡ self.old }
         ensures keeps { Keeps self.old self.new }
-        ensures all { result ≡ true → (room : Room) (g : Graph) (n h : ℕ) → IsScanOf room g n h self.old → AllAreChecked g self.old.scope self.old.checked }
+        ensures all { result ≡ true → (room : Room) (g : Graph) (n h : ℕ) → IsScanOf room g n h self.old
+            → AllAreChecked g self.old.scope self.old.checked }
     {
         if self.run.status != Status::Scanning || self.run.paused || self.run.at != At::Nowhere {
             return false;

@@ -6,7 +6,7 @@ ghost use Rattle.zs_ledger.specs.declared.entry.CopyResult.TheVariants.{Good, Mi
 ghost use Rattle.zs_walk.specs.Examples.{block, one_head, one_record, scrub_up_to};
 ghost use Rattle.zs_walk.specs.Walking.{MayWalk};
 
-use crate::{Scan, ScanFault, Turn};
+use crate::{Scan, ScanFault, Turn, item_of};
 use std::alloc::{AllocError, Global};
 use std::test::Fail;
 use zs_flat::Flat;
@@ -16,6 +16,10 @@ use zs_phys::{At, Kind, Status};
 use zs_walk::Datasets;
 
 const HEAD: DsId = DsId(1);
+
+const SNAPSHOT: DsId = DsId(2);
+
+const OTHER: DsId = DsId(3);
 
 const DNODES: Key = Key {
     object: 0,
@@ -358,6 +362,68 @@ fn a_freed_piece_has_no_entry_made(rt: HostRuntime) -> Result<(), Fail> {
         Some(scan) => {
             let mut scan = scan;
             assert!(rt; makes_until_freed(&mut scan, rt.alloc()));
+        }
+        None => assert!(rt; false),
+    }
+    Ok(())
+}
+
+#[test]
+fn the_walk_moves_to_the_snapshot_of_its_head_and_back(rt: HostRuntime) -> Result<(), Fail> {
+    match two_wait(rt.alloc()) {
+        Some(scan) => {
+            let mut scan = scan;
+            assert!(rt; scan.run().at.is_on(HEAD));
+            scan.snapshotted(HEAD, SNAPSHOT);
+            assert!(rt; scan.run().at.is_on(SNAPSHOT) && !scan.run().again);
+            scan.destroyed(SNAPSHOT, Some(HEAD));
+            assert!(rt; scan.run().at.is_on(HEAD) && scan.run().again);
+            assert_eq!(rt; scan.waiting(), 2);
+        }
+        None => assert!(rt; false),
+    }
+    Ok(())
+}
+
+#[test]
+fn the_walk_leaves_a_head_that_was_swapped_and_destroyed(rt: HostRuntime) -> Result<(), Fail> {
+    match two_wait(rt.alloc()) {
+        Some(scan) => {
+            let mut scan = scan;
+            scan.swapped(HEAD, OTHER);
+            assert!(rt; scan.run().at.is_on(OTHER));
+            scan.destroyed(OTHER, None);
+            assert!(rt; scan.run().at == At::Destroyed);
+            assert_eq!(rt; scan.waiting(), 2);
+        }
+        None => assert!(rt; false),
+    }
+    Ok(())
+}
+
+/// Takes a batch, frees its piece and the one that waits, and answers whether none of them waits or flies then.
+fn frees_both(scan: &mut Scan) -> bool {
+    let Some((first, _)) = take_one(scan) else {
+        return false;
+    };
+    let second = item_of(&block(304, 8, 0));
+    if scan.waiting() != 1 || scan.flying() != 1 || !scan.is_done(second.piece) {
+        return false;
+    }
+    scan.freed_all(&[first, second]);
+    scan.waiting() == 0
+        && scan.flying() == 0
+        && scan.is_in_flight()
+        && !scan.is_done(first.piece)
+        && !scan.is_done(second.piece)
+}
+
+#[test]
+fn freed_pieces_neither_wait_nor_fly(rt: HostRuntime) -> Result<(), Fail> {
+    match two_wait(rt.alloc()) {
+        Some(scan) => {
+            let mut scan = scan;
+            assert!(rt; frees_both(&mut scan));
         }
         None => assert!(rt; false),
     }

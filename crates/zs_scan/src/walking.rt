@@ -128,8 +128,10 @@ fn put_waiting(queue: &mut PlainQueue, item: Item) -> Result<(), ScanFault>
     requires { waits (⟦<PlainQueue as Waiting>⟧.items queue.old) item.piece ≡ false }
     ensures ok { OnOk result (⟦<PlainQueue as Waiting>⟧.items queue.new ≡ with_item (⟦<PlainQueue as Waiting>⟧.items queue.old) item) }
     ensures room { OnOk result (length (⟦<PlainQueue as Waiting>⟧.items queue.old) < ⟦<PlainQueue as Waiting>⟧.limit_of queue.old) }
-    ensures full { IsErrOf result ScanFault.Full → ⟦<PlainQueue as Waiting>⟧.limit_of queue.old ≤ length (⟦<PlainQueue as Waiting>⟧.items queue.old) }
-    ensures refuses { ⟦<PlainQueue as Waiting>⟧.limit_of queue.old ≤ length (⟦<PlainQueue as Waiting>⟧.items queue.old) → result ≡ Err ScanFault.Full }
+    ensures full { IsErrOf result ScanFault.Full
+        → ⟦<PlainQueue as Waiting>⟧.limit_of queue.old ≤ length (⟦<PlainQueue as Waiting>⟧.items queue.old) }
+    ensures refuses { ⟦<PlainQueue as Waiting>⟧.limit_of queue.old ≤ length (⟦<PlainQueue as Waiting>⟧.items queue.old)
+        → result ≡ Err ScanFault.Full }
     ensures busy { IsErrOf result ScanFault.ScanBusy → ⊥ }
     ensures limit { ⟦<PlainQueue as Waiting>⟧.limit_of queue.new ≡ ⟦<PlainQueue as Waiting>⟧.limit_of queue.old }
     ensures err { OnErr result (⟦<PlainQueue as Waiting>⟧.items queue.new ≡ ⟦<PlainQueue as Waiting>⟧.items queue.old) }
