@@ -23,3 +23,7 @@ pub mod Putting
 pub mod AllFly
 pub mod OfItems
 pub mod Ends
+pub mod Changed
+pub mod Handling
+pub mod Events
+pub mod FreedPieces

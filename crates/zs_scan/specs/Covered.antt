@@ -1,7 +1,5 @@
 -- What ties a scan to the datasets that it walks: it covers them, and what waits or flies is live.
 use Rattle.std.specs.Prelude.{◌≡◌, ℕ, ◌≤◌, ◌++◌, ◌⊎◌, true, false, List, [], ◌∷◌, Some}
-use Rattle.zs_ids.specs.declared.key.Key.{Key}
-use Rattle.zs_ids.specs.declared.block.Bp.{Bp}
 use Rattle.zs_ids.specs.declared.block.Piece.{Piece}
 use Rattle.zs_ids.specs.declared.block.Item.{Item}
 use Rattle.zs_ids.specs.Graph.{Graph, Has, IsLive, IsOfBlock}

@@ -47,6 +47,7 @@ impl Scan {
         ensures marks { (q : Piece) → mark_of self.new.marks q ≡ (if has_item items.now q then None else mark_of self.old.marks q) }
         ensures keeps { KeepsFreed items.now self.old self.new }
     {
+        self.facts();
         for item in items {
             self.freed(item.piece);
         }
