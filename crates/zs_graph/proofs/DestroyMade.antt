@@ -21,7 +21,7 @@ use Rattle.zs_graph.proofs.Kept.{within_kept}
 use Rattle.zs_graph.proofs.DestroyTree as tree
 use Rattle.zs_graph.proofs.Allowed.{unless, found_at}
 use Rattle.zs_graph.proofs.Seen.{at_index}
-use Rattle.zs_graph.proofs.RemovedAt.{removed_alone, removed_below}
+use Rattle.zs_graph.proofs.RemovedAt.{removed_destroyed}
 use mathlib.Core.Logic.{inl, inr}
 
 -- at most one is the first, or none
@@ -88,27 +88,9 @@ module _ (v : GraphView) (facts : IsGraph v) (id : DsId) (gone : Dataset) (here 
 
   -- it is taken out at its index
   pub is_destroyed : (at : ℕ) → slice_get v.sets at ≡ Some gone → (place : Option ℕ) → IsPlaceOf v.sets next place → removed_at v.sets at place ≡ destroyed v.sets gone
-  is_destroyed at there place is = go next refl place is
-    where
-      nobody : next ≡ None → (d : Dataset) → Has v.sets d → d.parent ≡ Some gone.id → ⊥
-      nobody e d i on =
-          subst (λ (o : Option DsId). Has (option_to_list o) d.id) e (subst (λ (l : List DsId). Has l d.id) only_next (has-child v.sets gone.id d.id (record { child = d; here = i; named = refl; stands = on })))
+  is_destroyed at there place is = removed_destroyed v.sets facts.valid.tree.in_order gone next destroy_allowed at there place is
 
-      below : (c : DsId) → next ≡ Some c → IsParent v.sets gone.id c
-      below c e =
-          from-children v.sets gone.id c (subst (λ (l : List DsId). Has l c) (sym only_next) (subst (λ (o : Option DsId). Has (option_to_list o) c) (sym e) (inl refl)))
-
-      go : (o : Option DsId) → next ≡ o → (p : Option ℕ) → IsPlaceOf v.sets o p → removed_at v.sets at p ≡ destroyed v.sets gone
-      go None e None i = removed_alone v.sets facts.valid.tree.in_order at gone there (nobody e)
-      go None e (Some k) i = absurd (some≢none k i)
-      go (Some c) e None i =
-          let p = below c e in
-          absurd (some≢none p.child (sym (dataset_is v.sets facts.valid.tree.in_order p.child c p.here p.named) ∙ i))
-      go (Some c) e (Some k) i =
-          let p = below c e in
-          removed_below v.sets facts.valid.tree.in_order at gone there k p.child (i.1 ∙ dataset_is v.sets facts.valid.tree.in_order p.child c p.here p.named) p.stands (λ d h on. only d.id (record { child = d; here = h; named = refl; stands = on }) ∙ sym (only c p) ∙ sym p.named)
-
-  pub destroy_made : (at : ℕ) → slice_get v.sets at ≡ Some gone → (place : Option ℕ) → IsPlaceOf v.sets next place → (freed : Freed) (new : GraphView) → new ≡ record v { sets = removed_at v.sets at place } → AreFreed v.sets (removed_at v.sets at place) freed.items → freed.next ≡ next → IsDestroyed v id freed new
+  pub destroy_made : (at : ℕ) → slice_get v.sets at ≡ Some gone → (place : Option ℕ) → IsPlaceOf v.sets next place → (freed : Freed) (new : GraphView) → new ≡ record v { sets = removed_at v.sets at place } → AreFreed v.sets (destroyed v.sets gone) freed.items → freed.next ≡ next → IsDestroyed v id freed new
   destroy_made at there place is freed new e items first =
       let same : new ≡ left = e ∙ ap (λ (g : Graph). let w : GraphView = record v { sets = g } in w) (is_destroyed at there place is) in
       record {
@@ -117,15 +99,15 @@ module _ (v : GraphView) (facts : IsGraph v) (id : DsId) (gone : Dataset) (here 
         may = subst (λ (o : Option DsId). MayDestroy v.sets gone o) (sym first) destroy_allowed;
         now = same;
         valid = λ room n h early from valid. subst (λ (w : GraphView). Valid room w.sets h) (sym same) (valid_left room n h early valid);
-        items = subst (λ (w : GraphView). AreFreed v.sets w.sets freed.items) (sym e) items;
+        items = subst (λ (w : GraphView). AreFreed v.sets w.sets freed.items) (sym same) items;
       }
 
 -- as the call takes it out
-module _ (v : GraphView) (facts : IsGraph v) (id : DsId) (at : ℕ) (within : at < length v.sets) (place : slice_get v.sets at ≡ dataset_at v.sets id) (none : destroy_refusal v id ≡ None) (first : Option DsId) (first_is : first ≡ find (is_above None) (children_of v.sets id)) (spot : Option ℕ) (spot_is : IsPlaceOf v.sets first spot) where
-  pub may_take : (d : Dataset) → slice_get v.sets at ≡ Some d → MayDestroy v.sets d first
-  may_take d is =
-      subst (λ (o : Option DsId). MayDestroy v.sets d o) (sym first_is) (destroy_allowed v facts id d (sym place ∙ is) none)
+pub may_take : (v : GraphView) (facts : IsGraph v) (id : DsId) (at : ℕ) → at < length v.sets → slice_get v.sets at ≡ dataset_at v.sets id → destroy_refusal v id ≡ None → (first : Option DsId) → first ≡ find (is_above None) (children_of v.sets id) → (d : Dataset) → slice_get v.sets at ≡ Some d → MayDestroy v.sets d first
+may_take v facts id at within place none first first_is d is =
+    subst (λ (o : Option DsId). MayDestroy v.sets d o) (sym first_is) (destroy_allowed v facts id d (sym place ∙ is) none)
 
+module _ (v : GraphView) (facts : IsGraph v) (id : DsId) (at : ℕ) (within : at < length v.sets) (place : slice_get v.sets at ≡ dataset_at v.sets id) (none : destroy_refusal v id ≡ None) (first : Option DsId) (first_is : first ≡ find (is_above None) (children_of v.sets id)) (spot : Option ℕ) (spot_is : IsPlaceOf v.sets first spot) where
   pub spot_within : IfSome spot (λ i. i < length v.sets)
   spot_within = go first spot spot_is
     where
@@ -147,6 +129,6 @@ module _ (v : GraphView) (facts : IsGraph v) (id : DsId) (at : ℕ) (within : at
   taken_kept =
       subst (λ (g : Graph). IsGraph (record v { sets = g })) (sym (is_destroyed v facts id gone_one (sym place ∙ there) none at there spot spot_next)) (destroy_kept v facts id gone_one (sym place ∙ there) none)
 
-  pub taken_made : (freed : Freed) (new : GraphView) → new ≡ record v { sets = removed_at v.sets at spot } → AreFreed v.sets (removed_at v.sets at spot) freed.items → freed.next ≡ first → IsDestroyed v id freed new
+  pub taken_made : (freed : Freed) (new : GraphView) → new ≡ record v { sets = removed_at v.sets at spot } → ((d : Dataset) → slice_get v.sets at ≡ Some d → AreFreed v.sets (destroyed v.sets d) freed.items) → freed.next ≡ first → IsDestroyed v id freed new
   taken_made freed new e items same =
-      destroy_made v facts id gone_one (sym place ∙ there) none at there spot spot_next freed new e items (same ∙ first_is)
+      destroy_made v facts id gone_one (sym place ∙ there) none at there spot spot_next freed new e (items gone_one there) (same ∙ first_is)

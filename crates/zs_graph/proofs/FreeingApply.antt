@@ -45,12 +45,9 @@ cases_in (e ∷ es) p = elim (cases_has (pieces_of e.1) p) [
     go f (inl is) has none more = none (subst (λ (x : Key × Bp). Has (pieces_of x.1) p) (sym is) has)
     go f (inr h) has none more = more (record { entry = f; here = h; is_piece = has })
 
-module _ (g : Graph) (n t : ℕ) (early : n ≤ t) (valid : IsValid g n) (head : Dataset) (changes : List (Key × Bp)) (may : MayPut g head changes t) where
+module _ (g : Graph) (n t last : ℕ) (early : n ≤ last) (late : t ≤ last) (valid : IsValid g n) (head : Dataset) (changes : List (Key × Bp)) (may : MayPut g head changes t) where
   abbrev pub new : Graph
   new = applied g head changes
-
-  late : t ≤ t
-  late = omega arith
 
   abbrev with_changes : List (Key × Bp)
   with_changes = entries_with head.entries changes
@@ -84,9 +81,9 @@ module _ (g : Graph) (n t : ℕ) (early : n ≤ t) (valid : IsValid g n) (head :
 
   -- and is not live any more
   pub apply_gone : (p : Piece) (sectors : ℕ) (sum : List ℕ) → IsFreedByApply g head changes p sectors sum → IsLive new p → ⊥
-  apply_gone p sectors sum f live = by live.holder live.holds.entry live.holds.is_entry live.holds.is_piece (tree.now g n t t early late valid head changes may live.holder live.is_dataset)
+  apply_gone p sectors sum f live = by live.holder live.holds.entry live.holds.is_entry live.holds.is_piece (tree.now g n t last early late valid head changes may live.holder live.is_dataset)
     where
-      by : (x : Dataset) (e : Key × Bp) → Has x.entries e → Has (pieces_of e.1) p → tree.Now g n t t early late valid head changes may x → ⊥
+      by : (x : Dataset) (e : Key × Bp) → Has x.entries e → Has (pieces_of e.1) p → tree.Now g n t last early late valid head changes may x → ⊥
       by x e h is (is_head same) = elim (from-with head.entries changes e put) [
         | inl c ↦ f.unkept (record { entry = e; here = c; is_piece = is })
         | inr old ↦
@@ -110,8 +107,8 @@ module _ (g : Graph) (n t : ℕ) (early : n ≤ t) (valid : IsValid g n) (head :
   -- a piece of the changes is live
   pub change_live : (p : Piece) → IsPieceIn changes p → IsLive new p
   change_live p i = record {
-    holder = tree.head_with g n t t early late valid head changes may;
-    is_dataset = tree.has_head g n t t early late valid head changes may;
+    holder = tree.head_with g n t last early late valid head changes may;
+    is_dataset = tree.has_head g n t last early late valid head changes may;
     holds = record { entry = i.entry; is_entry = has-with head.entries changes i.entry may.in_order i.here; is_piece = i.is_piece };
   }
 
@@ -122,7 +119,7 @@ module _ (g : Graph) (n t : ℕ) (early : n ≤ t) (valid : IsValid g n) (head :
   -- what was a piece of a block is freed, or one of a block still, or one of the head's that is one of the changes too
   pub apply_rest : (p : Piece) (sectors : ℕ) (sum : List ℕ) → IsOfBlock g p sectors sum → IsFreedByApply g head changes p sectors sum ⊎ (IsOfBlock new p sectors sum ⊎ IsInBoth p)
   apply_rest p sectors sum b = elim (cases_id b.holder.id head.id) [
-    | inr other ↦ inr (inl (stays_in b.holder b.at p sectors sum (tree.has_other g n t t early late valid head changes may b.holder b.is_dataset other) b.is_entry of))
+    | inr other ↦ inr (inl (stays_in b.holder b.at p sectors sum (tree.has_other g n t last early late valid head changes may b.holder b.is_dataset other) b.is_entry of))
     | inl e ↦ in_head (subst (λ (d : Dataset). Has d.entries b.at) (one_dataset g valid.tree.in_order b.holder head b.is_dataset may.here e) b.is_entry)
   ]
     where
@@ -130,7 +127,7 @@ module _ (g : Graph) (n t : ℕ) (early : n ≤ t) (valid : IsValid g n) (head :
       of = record { is_piece = b.is_piece; size = b.size; same_sum = b.same_sum }
 
       s : StandsOnSnapshot g head
-      s = tree.head_stands g n t t early late valid head changes may
+      s = tree.head_stands g n t last early late valid head changes may
 
       -- at home and replaced
       at_home : Has head.entries b.at → start_of g head.parent < b.at.1.birth → (k : Key × Bp) → Has changes k → k.0 ≡ b.at.0 → IsFreedByApply g head changes p sectors sum ⊎ (IsOfBlock new p sectors sum ⊎ IsInBoth p)
@@ -141,13 +138,13 @@ module _ (g : Graph) (n t : ℕ) (early : n ≤ t) (valid : IsValid g n) (head :
 
       in_head : Has head.entries b.at → IsFreedByApply g head changes p sectors sum ⊎ (IsOfBlock new p sectors sum ⊎ IsInBoth p)
       in_head h = elim (cases_at changes b.at.0) [
-        | inr none ↦ inr (inl (stays_in (tree.head_with g n t t early late valid head changes may) b.at p sectors sum (tree.has_head g n t t early late valid head changes may) (with-other head.entries changes b.at h none) of))
+        | inr none ↦ inr (inl (stays_in (tree.head_with g n t last early late valid head changes may) b.at p sectors sum (tree.has_head g n t last early late valid head changes may) (with-other head.entries changes b.at h none) of))
         | inl k ↦ elim (cases_lt (start_of g head.parent) b.at.1.birth) [
           | inl born ↦ at_home h born k.0 k.1 k.2
           | inr old ↦
               let start : start_of g head.parent ≡ s.below.creation = start_is g valid.tree.in_order s.below head.parent s.here s.is_parent in
               let there : Has s.below.entries b.at = (valid.shares head s.below may.here s.here s.is_parent).shared b.at h (omega (arith, old, start)) in
-              inr (inl (stays_in s.below b.at p sectors sum (tree.has_other g n t t early late valid head changes may s.below s.here (other s.is_snapshot)) there of))
+              inr (inl (stays_in s.below b.at p sectors sum (tree.has_other g n t last early late valid head changes may s.below s.here (other s.is_snapshot)) there of))
         ]
       ]
         where

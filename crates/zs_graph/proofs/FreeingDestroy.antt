@@ -109,6 +109,12 @@ module _ (g : Graph) (n : ℕ) (valid : IsValid g n) (gone : Dataset) (next : Op
   no_loop : (x : DsId) → IsParent g x gone.id → x ≢ gone.id
   no_loop x p e = acyclic g n valid.tree gone.id (subst (λ (y : DsId). Above g y gone.id) e (direct gone.id p))
 
+  -- a dataset on which another one stands is a snapshot, so that its blocks are born by its creation
+  pub gone_births : (d : Dataset) → Has g d → d.parent ≡ Some gone.id → (e : Key × Bp) → Has gone.entries e → e.1.birth ≤ gone.creation
+  gone_births d i on e h =
+      let off : gone.head ≡ false = tree.gone_snapshot g n n (itself n) valid gone may.here may.not_origin (child_or gone.id next) only d i on in
+      subst (λ (k : ℕ). e.1.birth ≤ k) (last_in_snapshot gone n off) ((valid.holds gone may.here).births e h)
+
   -- an entry at home in the destroyed dataset: the child holds it, or does not
   held_or_not : (e : Key × Bp) → Has gone.entries e → (o : Option DsId) → next ≡ o → (Has (held_by g next) e → ⊥) ⊎ ((d : Dataset) × Has g d × (d.id ≢ gone.id) × Has d.entries e)
   held_or_not e h None is = inl (λ held. subst (λ (o : Option DsId). Has (held_by g o) e) is held)
@@ -116,12 +122,6 @@ module _ (g : Graph) (n : ℕ) (valid : IsValid g n) (gone : Dataset) (next : Op
     where
       p : IsParent g gone.id c
       p = from-children g gone.id c (subst (λ (l : List DsId). Has l c) (sym may.only) (subst (λ (o : Option DsId). Has (option_to_list o) c) (sym is) (inl refl)))
-
-      -- the destroyed dataset is a snapshot then, so that its blocks are born by its creation
-      by_creation : e.1.birth ≤ gone.creation
-      by_creation =
-          let off : gone.head ≡ false = tree.gone_snapshot g n n (itself n) valid gone may.here may.not_origin (child_or gone.id next) only p.child p.here p.stands in
-          subst (λ (k : ℕ). e.1.birth ≤ k) (last_in_snapshot gone n off) ((valid.holds gone may.here).births e h)
 
       by : (d : Dataset) → d ≡ p.child → (Has (held_by g next) e → ⊥) ⊎ ((d : Dataset) × Has g d × (d.id ≢ gone.id) × Has d.entries e)
       by d same =
@@ -136,7 +136,7 @@ module _ (g : Graph) (n : ℕ) (valid : IsValid g n) (gone : Dataset) (next : Op
                 let is_held : Has d.entries e = subst (λ (o : Option Dataset). Has (entries_of o) e) found (subst (λ (o : Option DsId). Has (held_by g o) e) is held) in
                 let one : b.entry ≡ e = one_key d.entries (valid.holds d here).in_order b.entry e b.is_entry is_held b.is_key in
                 let birth : b.entry.1.birth ≡ e.1.birth = ap (λ (x : Key × Bp). x.1.birth) one in
-                let low : e.1.birth ≤ gone.creation = by_creation in
+                let low : e.1.birth ≤ gone.creation = gone_births p.child p.here p.stands e h in
                 absurd (omega (arith, young, birth, low)))
             | inr old ↦
                 let there : Has gone.entries b.entry = shares.shared b.entry b.is_entry old in

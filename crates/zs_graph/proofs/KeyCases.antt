@@ -46,7 +46,7 @@ number_self : (a : ℕ) → nat_cmp a a ≡ Equal
 number_self a =
     ap (λ (t : Bool). cond t Less (cond (a == a) Equal Greater)) (le-ltb a a (omega arith)) ∙ ap (λ (t : Bool). cond t Equal Greater) (eq-eqb a a refl)
 
-key_self : (a : Key) → key_cmp a a ≡ Equal
+pub key_self : (a : Key) → key_cmp a a ≡ Equal
 key_self a = rw (number_self a.object, number_self a.rank, number_self a.leaf) (number_self a.depth)
 
 less≢equal : Less ≡ Equal → ⊥

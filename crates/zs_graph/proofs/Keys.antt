@@ -88,7 +88,7 @@ root_first k =
     zero_first k.object (by_rank root_key k) (zero_first k.rank (by_leaf root_key k) (zero_first k.leaf (by_depth root_key k) (number_le 0 k.depth (omega arith))))
 
 -- keys between which the order finds no difference are one
-then_equal : (x y : Ordering) → ordering_then x y ≡ Equal → (x ≡ Equal) × (y ≡ Equal)
+pub then_equal : (x y : Ordering) → ordering_then x y ≡ Equal → (x ≡ Equal) × (y ≡ Equal)
 then_equal Less y e = let n : 0 ≡ 1 = ap rank e in absurd (omega (arith, n))
 then_equal Equal y e = (refl, e)
 then_equal Greater y e = let n : 2 ≡ 1 = ap rank e in absurd (omega (arith, n))
@@ -112,10 +112,10 @@ deeper a b less =
     keep x y z e rest = le_then x z (elim (then_less x y e) [ inl l ↦ inl l | inr h ↦ inr (h.0, rest h.1) ])
 
 -- an entry behind the first of a list in order of key is above it
-abbrev AllBelow : Key → List (Key × Bp) → Type 0
+abbrev pub AllBelow : Key → List (Key × Bp) → Type 0
 AllBelow k es = AllByRecursion (λ y. key_cmp k y ≡ Less) (keys_of es)
 
-above_first : (k : Key) (es : List (Key × Bp)) (f : Key × Bp) → AllBelow k es → Has es f → key_cmp k f.0 ≡ Less
+pub above_first : (k : Key) (es : List (Key × Bp)) (f : Key × Bp) → AllBelow k es → Has es f → key_cmp k f.0 ≡ Less
 above_first k [] f all h = absurd h
 above_first k (e ∷ es) f all (inl same) = subst (λ (x : Key × Bp). key_cmp k x.0 ≡ Less) same all.0
 above_first k (e ∷ es) f all (inr h) = above_first k es f all.1 h

@@ -31,3 +31,9 @@ pub mod FreedItems
 pub mod FreeingDestroy
 pub mod FreeingApply
 pub mod UsedPlaces
+pub mod ItemsOf
+pub mod SortedItems
+pub mod Found
+pub mod ApplyItems
+pub mod DestroyItems
+pub mod NextBlocks

@@ -1,16 +1,16 @@
 -- A dataset that is taken out at its index is destroyed.
 use Rattle.std.proofs.Common.{◌≡◌, ◌≢◌, ◌<◌, ◌++◌, ℕ, suc, zero, Bool, true, false, not, cond, List, [], ◌∷◌, Option, take, drop, refl, sym, ap, subst, ◌∙◌, arith}
-use Rattle.std.specs.Prelude.{map, filter, slice_get, slice_set, Some, None, if◌then◌else◌}
+use Rattle.std.specs.Prelude.{map, filter, option_to_list, slice_get, slice_set, Some, None, if◌then◌else◌}
 use Rattle.std.specs.List.{remove}
 use Rattle.std.proofs.lemmas.Bool.{true≢false, cases_Bool, not_from_false}
 use Rattle.zs_ids.specs.declared.dataset.DsId.{DsId}
 use Rattle.zs_ids.specs.Graph.{Has, Dataset, Graph}
-use Rattle.zs_ids.specs.GraphTree.{is_id, stands_on}
+use Rattle.zs_ids.specs.GraphTree.{is_id, stands_on, IsParent}
 use Rattle.zs_ids.specs.GraphValid.{IsInIdOrder}
-use Rattle.zs_ids.specs.GraphChange.{destroyed, without, off}
-use Rattle.zs_graph.specs.ByIndex.{adopted_at, removed_at}
+use Rattle.zs_ids.specs.GraphChange.{destroyed, without, off, MayDestroy}
+use Rattle.zs_graph.specs.ByIndex.{adopted_at, removed_at, IsPlaceOf}
 use Rattle.zs_graph.proofs.Lists.{some_is, some≢none}
-use Rattle.zs_graph.proofs.Graphs.{is_id-same, is_id-other, id_is, one_dataset, stands_on-is, stands_on-from}
+use Rattle.zs_graph.proofs.Graphs.{is_id-same, is_id-other, id_is, one_dataset, dataset_is, from-children, has-child, stands_on-is, stands_on-from}
 use Rattle.zs_graph.proofs.Seen.{has_at}
 use Rattle.zs_graph.proofs.Searches.{changed_at}
 use mathlib.Core.Logic.{inl, inr}
@@ -75,3 +75,27 @@ module _ (g : Graph) (order : IsInIdOrder g) (at : ℕ) (gone : Dataset) (there 
           | inr n ↦ f ∙ sym n
         ]
       ]
+
+-- a dataset that may be destroyed, with the place of its one child, where it has one
+module _ (g : Graph) (order : IsInIdOrder g) (gone : Dataset) (next : Option DsId) (may : MayDestroy g gone next) where
+  is_next : (d : Dataset) → Has g d → d.parent ≡ Some gone.id → Has (option_to_list next) d.id
+  is_next d h on =
+      subst (λ (l : List DsId). Has l d.id) may.only (has-child g gone.id d.id (record { child = d; here = h; named = refl; stands = on }))
+
+  below : (c : DsId) → next ≡ Some c → IsParent g gone.id c
+  below c e =
+      from-children g gone.id c (subst (λ (l : List DsId). Has l c) (sym may.only) (subst (λ (o : Option DsId). Has (option_to_list o) c) (sym e) (inl refl)))
+
+  pub removed_destroyed : (at : ℕ) → slice_get g at ≡ Some gone → (place : Option ℕ) → IsPlaceOf g next place → removed_at g at place ≡ destroyed g gone
+  removed_destroyed at there place is = go next refl place is
+    where
+      named : (c : DsId) → next ≡ Some c → (d : Dataset) → Has g d → d.parent ≡ Some gone.id → d.id ≡ c
+      named c e d h on = elim (subst (λ (o : Option DsId). Has (option_to_list o) d.id) e (is_next d h on)) [ inl same ↦ sym same | inr none ↦ absurd none ]
+
+      go : (o : Option DsId) → next ≡ o → (p : Option ℕ) → IsPlaceOf g o p → removed_at g at p ≡ destroyed g gone
+      go None e None i = removed_alone g order at gone there (λ d h on. subst (λ (o : Option DsId). Has (option_to_list o) d.id) e (is_next d h on))
+      go None e (Some k) i = absurd (some≢none k i)
+      go (Some c) e None i = let p = below c e in absurd (some≢none p.child (sym (dataset_is g order p.child c p.here p.named) ∙ i))
+      go (Some c) e (Some k) i =
+          let p = below c e in
+          removed_below g order at gone there k p.child (i.1 ∙ dataset_is g order p.child c p.here p.named) p.stands (λ d h on. named c e d h on ∙ sym p.named)

@@ -5,7 +5,11 @@ use Rattle.std.specs.List.{list_any}
 use Rattle.std.proofs.lemmas.Bool.{true≢false}
 use Rattle.std.proofs.lemmas.List.{length-map}
 use Rattle.std.proofs.lemmas.Option.{slice_get-map, slice_get-get_or}
-use Rattle.zs_ids.specs.Graph.{Has}
+use Rattle.zs_ids.specs.declared.key.Key.{Key}
+use Rattle.zs_ids.specs.declared.block.Bp.{Bp}
+use Rattle.zs_ids.specs.Graph.{Has, Graph}
+use Rattle.zs_graph.specs.declared.graph.Set.{Set}
+use Rattle.zs_graph.specs.View.{dataset_of}
 use Rattle.zs_graph.proofs.Lists.{some≢none}
 use mathlib.Core.Logic.{inl, inr}
 
@@ -122,3 +126,8 @@ pub read_at : {A B : Type 0} (f : A → B) (xs : List A) (i : ℕ) (x : A) → x
 read_at f xs i x is l =
     let long = length-map xs f in
     slice_get-map f xs i ∙ ap (λ o. option_map f o) (slice_get-get_or xs i x (subst (λ (n : ℕ). i < n) long l) ∙ ap Some (sym is))
+
+-- a dataset that was read at an index, as contracts see it
+pub set_at : {T : Type 0} (entries : T → List (Key × Bp)) (items : List (Set T)) (g : Graph) → map (dataset_of entries) items ≡ g → (i : ℕ) (x : Set T) → x ≡ get_or items i x → i < length g → slice_get g i ≡ Some (dataset_of entries x)
+set_at entries items g e i x is l =
+    subst (λ (h : Graph). slice_get h i ≡ Some (dataset_of entries x)) e (read_at (dataset_of entries) items i x is (subst (λ (h : Graph). i < length h) (sym e) l))

@@ -4,3 +4,4 @@ pub mod Climbing
 pub mod Refusals
 pub mod Made
 pub mod Frees
+pub mod Freeing

@@ -18,6 +18,7 @@ pub mod fault;
 pub mod freed;
 pub mod graph;
 pub mod lookups;
+mod freeing;
 mod refusals;
 
 pub use fault::GraphFault;

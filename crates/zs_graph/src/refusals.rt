@@ -1,15 +1,16 @@
 //! Why a change of the datasets is refused: each answers the first of the reasons that hold, and else where the dataset
 //! stands that is to be changed.
 
-ghost use Rattle.std.specs.Prelude.{◌≡◌, ◌==◌, ◌&&◌, ◌||◌, IfErr, IfOk, None, OnOk, Some, not, nat_lt};
+ghost use Rattle.std.specs.Prelude.{◌≡◌, ◌==◌, ◌&&◌, ◌||◌, IfErr, IfOk, None, OnOk, Some, filter, length, not, nat_lt, option_map};
 ghost use Rattle.std.specs.List.{list_any};
-ghost use Rattle.zs_ids.specs.GraphTree.{created, dataset_at, same_name, start_of};
-ghost use Rattle.zs_graph.specs.Refusals.{clone_refusal, fs_refusal, has_head_named, has_snapshot_named, is_full, is_sibling, snapshot_refusal, swap_refusal};
+ghost use Rattle.zs_ids.specs.GraphTree.{children_of, created, dataset_at, same_name, stands_on, start_of};
+ghost use Rattle.zs_graph.specs.Refusals.{apply_refusal, clone_refusal, destroy_refusal, fs_refusal, has_head_named, has_snapshot_named, is_full, is_owned_by, is_sibling, parent_in, snapshot_refusal, swap_refusal};
+ghost use Rattle.zs_graph.specs.ByIndex.{IsPlaceOf};
 ghost use Rattle.zs_graph.specs.View.{IsIndexOf};
 
 use crate::fault::GraphFault;
 use crate::graph::{Graph, Set};
-use crate::lookups::same_name;
+use crate::lookups::{same_name, stands_on};
 use zs_ids::limits::DATASETS;
 use zs_ids::{Blocks, DsId, Name};
 
@@ -115,6 +116,76 @@ impl<T: Blocks> Graph<T> {
         }
     }
 
+    /// Whether blocks may be applied to a head.
+    pub(crate) fn may_apply(&self, head: DsId) -> Result<usize, GraphFault>
+        ensures err { IfErr result (λ why. apply_refusal self.now head ≡ Some why) }
+        ensures ok { OnOk result (apply_refusal self.now head ≡ None) }
+        ensures place { IfOk result (λ at. IsIndexOf self.now.sets head (Some at)) }
+    {
+        let Some(at) = self.index_of(head) else {
+            return Err(GraphFault::NoDataset);
+        };
+        if !self.sets[at].head {
+            return Err(GraphFault::NotHead);
+        }
+        Ok(at)
+    }
+
+    /// How many datasets stand on this one.
+    fn children(&self, id: DsId) -> usize
+        ensures { result ≡ length (children_of self.now.sets id) }
+    {
+        count_children(&self.sets, id)
+    }
+
+    /// Whether there is such a parent and it is of this owner.
+    fn is_owned_by(&self, owner: &Name, parent: Option<DsId>) -> bool
+        ensures { result ≡ is_owned_by owner.now (parent_in self.now.sets parent) }
+    {
+        match parent {
+            None => false,
+            Some(parent) => self.is_dataset_of(owner, parent),
+        }
+    }
+
+    /// Whether there is such a dataset and it is of this owner.
+    fn is_dataset_of(&self, owner: &Name, id: DsId) -> bool
+        ensures { result ≡ is_owned_by owner.now (dataset_at self.now.sets id) }
+    {
+        match self.set(id) {
+            None => false,
+            Some(set) => same_name(&set.owner, owner),
+        }
+    }
+
+    /// Whether a dataset may be destroyed.
+    pub(crate) fn may_destroy(&self, id: DsId) -> Result<usize, GraphFault>
+        ensures err { IfErr result (λ why. destroy_refusal self.now id ≡ Some why) }
+        ensures ok { OnOk result (destroy_refusal self.now id ≡ None) }
+        ensures place { IfOk result (λ at. IsIndexOf self.now.sets id (Some at)) }
+    {
+        let Some(at) = self.index_of(id) else {
+            return Err(GraphFault::NoDataset);
+        };
+        if id == DsId::ORIGIN || self.children(id) > 1 {
+            return Err(GraphFault::HasClones);
+        }
+        if self.sets[at].head && self.is_owned_by(&self.sets[at].owner, self.sets[at].parent) {
+            return Err(GraphFault::HasSnapshots);
+        }
+        Ok(at)
+    }
+
+    /// Where the dataset with this id stands, where an id is given.
+    pub(crate) fn place_of(&self, id: Option<DsId>) -> Option<usize>
+        ensures { IsPlaceOf self.now.sets id result }
+    {
+        match id {
+            None => None,
+            Some(id) => self.index_of(id),
+        }
+    }
+
     /// Whether two datasets may be swapped.
     pub(crate) fn may_swap(&self, a: DsId, b: DsId) -> Result<(usize, usize), GraphFault>
         ensures err { IfErr result (λ why. swap_refusal self.now a b ≡ Some why) }
@@ -163,4 +234,11 @@ fn has_snapshot<T>(sets: &[Set<T>], owner: &Name, label: &Name) -> bool
 {
     sets.iter().any(|set| !set.head
         && (same_name(&set.owner, owner) && same_name(&set.label, label)))
+}
+
+/// How many datasets stand on this one.
+fn count_children<T>(sets: &[Set<T>], id: DsId) -> usize
+    ensures { result ≡ length (filter (λ s. stands_on id s.parent) sets.now) }
+{
+    sets.iter().filter(|set| stands_on(id, set.parent)).count()
 }
