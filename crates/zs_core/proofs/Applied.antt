@@ -219,6 +219,7 @@ module _ (size : ℕ → ℕ) (id : DsId) (name : Name) (n t : ℕ) (entries cha
             here = inr (inl refl);
             is_head = refl;
             later = later;
+            older = λ e h. let birth : e.1.birth ≤ n = (formed.each e h).born in omega (arith, birth, earlier);
             born = λ e h. (are.from e h).2.born;
             in_order = are.in_order;
             blocks = subst (λ (es : List (Key × Bp)). HasBlocks (head_of id name es) t) (sym (with_is entries changes)) (has_blocks size t id name after formed_after);
