@@ -1,7 +1,7 @@
 //! The head of a record.
 
 ghost use Rattle.std.specs.Prelude.{◌≡◌, ◌≤◌, IfOk};
-ghost use Rattle.zs_ids.specs.declared.limits.TheConstants.{TXG_END};
+ghost use Rattle.zs_ids.specs.declared.limits.TheConstants.{MIRRORS, WIDTH, TXG_END};
 ghost use Rattle.zs_record.specs.Head.{behind_magic, behind_version, offline_of, head_of};
 ghost use Rattle.zs_record.specs.Reading.{Gives};
 
@@ -53,8 +53,8 @@ fn behind_version(bytes: &[u8]) -> Result<&[u8], RecordFault>
 /// The devices that are offline.
 #[tactic(auto, unfolding(crate::specs::Head::offline_of))]
 fn offline_of(bytes: &[u8], mirrors: Mirrors) -> Result<(u32, &[u8]), RecordFault>
-    requires few { mirrors.count ≤ 8 }
-    requires narrow { mirrors.width ≤ 4 }
+    requires few { mirrors.count ≤ MIRRORS }
+    requires narrow { mirrors.width ≤ WIDTH }
     ensures { Gives (λ x. (x.0, x.1.now)) result (offline_of mirrors bytes.now) }
 {
     let (mask, rest) = u32_of(bytes)?;
@@ -67,8 +67,8 @@ fn offline_of(bytes: &[u8], mirrors: Mirrors) -> Result<(u32, &[u8]), RecordFaul
 /// The head of a record of a pool with these mirrors.
 #[tactic(auto, unfolding(crate::specs::Head::head_of))]
 pub(crate) fn head_of(bytes: &[u8], mirrors: Mirrors) -> Result<(Head, &[u8]), RecordFault>
-    requires few { mirrors.count ≤ 8 }
-    requires narrow { mirrors.width ≤ 4 }
+    requires few { mirrors.count ≤ MIRRORS }
+    requires narrow { mirrors.width ≤ WIDTH }
     ensures exact { Gives (λ x. (x.0, x.1.now)) result (head_of mirrors bytes.now) }
     ensures within { IfOk result (λ x. x.0.txg ≤ TXG_END) }
 {

@@ -1,6 +1,7 @@
 //! The mirrors of a pool.
 
 ghost use Rattle.std.specs.Prelude.{◌≡◌, ◌≤◌, ◌^◌, nat_lt};
+ghost use Rattle.zs_ids.specs.declared.limits.TheConstants.{MIRRORS, WIDTH};
 ghost use Rattle.zs_record.specs.Head.{devices_of, leaves_each, is_offline};
 
 /// The mirrors of a pool.
@@ -22,8 +23,8 @@ pub(crate) fn devices_of(mirrors: Mirrors) -> u32
 /// Whether the devices of the mask may be offline at once: none is beyond the pool's, and each mirror has another one.
 #[tactic(auto, unfolding(crate::specs::Head::is_offline))]
 pub(crate) fn is_offline(mirrors: Mirrors, mask: u32) -> bool
-    requires few { mirrors.count ≤ 8 }
-    requires narrow { mirrors.width ≤ 4 }
+    requires few { mirrors.count ≤ MIRRORS }
+    requires narrow { mirrors.width ≤ WIDTH }
     ensures { result ≡ is_offline mirrors mask }
 {
     is_below(mask, devices_of(mirrors)) && leaves_each(mirrors.width, mirrors.count, mask)
@@ -39,7 +40,7 @@ pub(crate) fn is_below(mask: u32, devices: u32) -> bool
 
 /// Whether the mask leaves a device to each of so many mirrors of that width.
 fn leaves_each(width: u8, count: u8, mask: u32) -> bool
-    requires { width ≤ 4 }
+    requires { width ≤ WIDTH }
     ensures { result ≡ leaves_each width count mask }
 {
     let devices = 1u32 << width;

@@ -1,6 +1,7 @@
 //! The state of the scan.
 
 ghost use Rattle.std.specs.Prelude.{◌≡◌, ◌≤◌, ◌==◌};
+ghost use Rattle.zs_ids.specs.declared.limits.TheConstants.{MIRRORS, WIDTH};
 ghost use Rattle.zs_record.specs.Scan.{if_used, kind_with, status_with, is_away, away_of, running_of, is_place_key, place_key_of, at_with, pass_of};
 ghost use Rattle.zs_record.specs.Reading.{Gives};
 
@@ -86,8 +87,8 @@ fn status_with(n: u8) -> Status
 /// The devices that were away: some of the pool's, and all that are offline.
 #[tactic(auto, unfolding(crate::specs::Scan::away_of))]
 fn away_of(bytes: &[u8], mirrors: Mirrors, offline: u32) -> Result<(u32, &[u8]), RecordFault>
-    requires few { mirrors.count ≤ 8 }
-    requires narrow { mirrors.width ≤ 4 }
+    requires few { mirrors.count ≤ MIRRORS }
+    requires narrow { mirrors.width ≤ WIDTH }
     ensures { Gives (λ x. (x.0, x.1.now)) result (away_of mirrors offline bytes.now) }
 {
     let (away, rest) = u32_of(bytes)?;
@@ -99,8 +100,8 @@ fn away_of(bytes: &[u8], mirrors: Mirrors, offline: u32) -> Result<(u32, &[u8]),
 
 /// Whether the mask has some of the pool's devices, and all that are offline.
 fn is_away(mirrors: Mirrors, offline: u32, away: u32) -> bool
-    requires few { mirrors.count ≤ 8 }
-    requires narrow { mirrors.width ≤ 4 }
+    requires few { mirrors.count ≤ MIRRORS }
+    requires narrow { mirrors.width ≤ WIDTH }
     ensures { result ≡ is_away mirrors offline away }
 {
     is_below(away, devices_of(mirrors)) && offline & away == offline
@@ -113,8 +114,8 @@ pub(crate) fn running_of(
     mirrors: Mirrors,
     offline: u32,
 ) -> Result<(Running, &[u8]), RecordFault>
-    requires few { mirrors.count ≤ 8 }
-    requires narrow { mirrors.width ≤ 4 }
+    requires few { mirrors.count ≤ MIRRORS }
+    requires narrow { mirrors.width ≤ WIDTH }
     ensures { Gives (λ x. (x.0, x.1.now)) result (running_of mirrors offline bytes.now) }
 {
     let (kind, rest) = u8_within(bytes, 0, 2)?;

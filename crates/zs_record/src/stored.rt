@@ -1,6 +1,7 @@
 //! A record, all of its bytes.
 
 ghost use Rattle.std.specs.Prelude.{◌≡◌, ◌≤◌};
+ghost use Rattle.zs_ids.specs.declared.limits.TheConstants.{MIRRORS, WIDTH};
 ghost use Rattle.zs_record.specs.Reading.{GivesOrWants};
 ghost use Rattle.zs_record.specs.Stored.{parts_of, is_scanning, most_dirty, stored_of};
 
@@ -63,8 +64,8 @@ fn most_dirty(kind: Kind) -> u32
 /// The parts of a record of a pool with these mirrors, or its first fault.
 #[tactic(auto, unfolding(crate::specs::Stored::stored_of))]
 pub fn stored_of(alloc: Global, bytes: &[u8], mirrors: Mirrors) -> Result<Stored, RecordFault>
-    requires few { mirrors.count ≤ 8 }
-    requires narrow { mirrors.width ≤ 4 }
+    requires few { mirrors.count ≤ MIRRORS }
+    requires narrow { mirrors.width ≤ WIDTH }
     ensures { GivesOrWants parts_of result (stored_of mirrors bytes.now) }
 {
     let devices = devices_of(mirrors);
