@@ -16,7 +16,7 @@ use Rattle.zs_record.specs.Blocks.{key_of, is_key, is_behind, key_behind, one_pl
 use Rattle.zs_record.specs.Laws.{IsPart, IsWideKey, IsPointerAt, IsEntry, AreEntries, PartsLaw}
 use Rattle.zs_record.specs.Spelling.{key_bytes, entry_bytes}
 use Rattle.std.specs.List.{flat_map}
-use Rattle.zs_record.proofs.Parts.{peel, ok_is, guard_true, bytes_part, same_part}
+use Rattle.zs_record.proofs.Parts.{peel, ok_is, guard_true, joined, bytes_part, same_part}
 use Rattle.zs_record.proofs.Fields.{key_part}
 use Rattle.zs_record.proofs.Items.{AreItems, items_part}
 use Rattle.zs_record.proofs.Spans.{set_part}
@@ -96,8 +96,7 @@ entry_part law last = record {
       let a = peel (key_behind last) key_bytes (IsKeyBehind last) (key_behind_part last) _ bytes (e, rest) are eq in
       let b = peel (pointer_at a.value) bp_bytes (IsPointerAt a.value) (pointer_at_part law a.value) _ a.rest (e, rest) a.are a.goes_on in
       let made : (Key × Bp) × List ℕ = ((a.value, b.value), b.rest) in
-      let whole : bytes ≡ (key_bytes a.value ++ bp_bytes b.value) ++ b.rest =
-      a.parts ∙ ap (λ (r : List ℕ). key_bytes a.value ++ r) b.parts ∙ sym (append_assoc (key_bytes a.value) (bp_bytes b.value) b.rest) in
+      let whole = joined (key_bytes a.value) (bp_bytes b.value) b.rest bytes a.rest a.parts b.parts in
       subst (λ (x : (Key × Bp) × List ℕ). (bytes ≡ (key_bytes x.0.0 ++ bp_bytes x.0.1) ++ x.1) × IsEntry last x.0) (ok_is made (e, rest) b.goes_on)
       (whole, record { wide = a.fit.wide; key = a.fit.key; behind = a.fit.behind; pointer = b.fit });
 }

@@ -4,7 +4,7 @@ use Rattle.std.specs.List.{flat_map}
 use Rattle.zs_sum.specs.Laws.{AreBytes}
 use Rattle.zs_record.specs.Reading.{Read, ◌>>=◌, items_of}
 use Rattle.zs_record.specs.Laws.{IsPart, FitAll}
-use Rattle.zs_record.proofs.Parts.{peel, ok_is}
+use Rattle.zs_record.proofs.Parts.{peel, ok_is, joined}
 
 -- so many items that fit
 pub record AreItems {S A : Type 0} (fits : S → A → Type 0) (next : S → A → S) (count : ℕ) (state : S) (items : List A) : Type 0 where
@@ -40,8 +40,8 @@ items_spell {A = A} read write fits next part (suc count) state bytes items rest
     } in
     let b = peel (items_of read next count (next state a.value)) (flat_map write) (AreItems fits next count (next state a.value)) others _ a.rest (items, rest) a.are a.goes_on in
     let made : List A × List ℕ = (a.value ∷ b.value, b.rest) in
-    let whole : bytes ≡ flat_map write made.0 ++ made.1 = a.parts ∙ ap (λ (r : List ℕ). write a.value ++ r) b.parts ∙ sym (append_assoc (write a.value) (flat_map write b.value) b.rest) in
-    subst (λ (x : List A × List ℕ). (bytes ≡ flat_map write x.0 ++ x.1) × AreItems fits next (suc count) state x.0) (ok_is made (items, rest) b.goes_on)
+    let whole : bytes ≡ flat_map write made.0 ++ made.1 = joined (write a.value) (flat_map write b.value) b.rest bytes a.rest a.parts b.parts in
+    subst (λ (x : List A × List ℕ). (bytes ≡ flat_map write x.0 ++ x.1) × AreItems fits next (suc count) state x.0) {x = made} (ok_is made (items, rest) b.goes_on)
     (whole, record { many = ap suc b.fit.many; fit = (a.fit, b.fit.fit) })
 
 pub items_part : {S A : Type 0} (read : S → List ℕ → Read A) (write : A → List ℕ) (fits : S → A → Type 0) (next : S → A → S)

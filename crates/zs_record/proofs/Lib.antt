@@ -7,3 +7,10 @@ pub mod Todos
 pub mod Fields
 pub mod Spans
 pub mod Entries
+pub mod Heads
+pub mod Datasets
+pub mod Scans
+pub mod Passes
+pub mod Queues
+pub mod Ledgers
+pub mod Records

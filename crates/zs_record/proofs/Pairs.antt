@@ -1,14 +1,12 @@
 -- Parts one after the other, as pairs.
-use Rattle.std.proofs.Common.{◌≡◌, ℕ, ◌^◌, ◌<◌, List, [], ◌∷◌, ◌++◌, Result, Ok, Err, refl, sym, ap, subst, ◌∙◌, append_assoc}
-use Rattle.std.specs.Int.{w8, w16, w32}
-use Rattle.zs_ids.specs.declared.key.Key.{Key}
+use Rattle.std.proofs.Common.{◌≡◌, ℕ, ◌≤◌, ◌==◌, nat_lt, Bool, true, false, cond, List, [], ◌∷◌, ◌++◌, Result, Ok, Err, refl, sym, ap, subst, ◌∙◌, append_assoc, arith}
+use Rattle.std.proofs.lemmas.Bool.{ltb-false, le-ltb, or_parts, or_from}
+use Rattle.zs_sum.specs.Laws.{AreBytes}
 use Rattle.zs_record.specs.declared.fault.RecordFault.{RecordFault}
 use Rattle.zs_record.specs.Reading.{Read, ◌>>=◌}
-use Rattle.zs_record.specs.Numbers.{number_of, number_bytes}
-use Rattle.zs_record.specs.Blocks.{key_of}
-use Rattle.zs_record.specs.Laws.{IsPart, IsWideKey}
-use Rattle.zs_record.specs.Spelling.{key_bytes}
-use Rattle.zs_record.proofs.Parts.{peel, ok_is, number_part, wide8, wide16, wide32}
+use Rattle.zs_record.specs.Numbers.{is_outside}
+use Rattle.zs_record.specs.Laws.{IsPart}
+use Rattle.zs_record.proofs.Parts.{peel, ok_is, bind_ok, joined, are_bytes_behind}
 
 -- the one, and then the other
 abbrev pub then_read : {A B : Type 0} → (List ℕ → Read A) → (A → List ℕ → Read B) → List ℕ → Read (A × B)
@@ -22,16 +20,22 @@ pub bind_bind : {A B C : Type 0} (r : Result A RecordFault) (f : A → Result B 
 bind_bind (Ok x) f g = refl
 bind_bind (Err fault) f g = refl
 
+pub bind_guard : {A B : Type 0} (test : Bool) (fault : RecordFault) (r : Result A RecordFault) (g : A → Result B RecordFault) → (cond test (Err fault) r >>= g) ≡ cond test (Err fault) (r >>= g)
+bind_guard true fault r g = refl
+bind_guard false fault r g = refl
+
+-- the second part is asked for only behind a first that fits
 pub pair_part : {A B : Type 0} {readA : List ℕ → Read A} {writeA : A → List ℕ} {fitsA : A → Type 0} {readB : A → List ℕ → Read B} {writeB : B → List ℕ} {fitsB : A → B → Type 0}
-    → IsPart readA writeA fitsA → ((a : A) → IsPart (readB a) writeB (fitsB a))
+    → IsPart readA writeA fitsA → ((a : A) → fitsA a → IsPart (readB a) writeB (fitsB a))
     → IsPart (then_read readA readB) (λ x. writeA x.0 ++ writeB x.1) (λ x. fitsA x.0 × fitsB x.0 x.1)
 pair_part {A = A} {B = B} {readA = readA} {writeA = writeA} {fitsA = fitsA} {readB = readB} {writeB = writeB} {fitsB = fitsB} partA partB = record {
-  back = λ x rest is. rw (append_assoc (writeA x.0) (writeB x.1) rest, partA.back x.0 (writeB x.1 ++ rest) is.0, (partB x.0).back x.1 rest is.1) refl;
+  back = λ x rest is. rw (append_assoc (writeA x.0) (writeB x.1) rest, partA.back x.0 (writeB x.1 ++ rest) is.0, (partB x.0 is.0).back x.1 rest is.1) refl;
   spells = λ bytes x rest are e.
       let a = peel readA writeA fitsA partA (λ a. readB a.0 a.1 >>= λ b. Ok ((a.0, b.0), b.1)) bytes (x, rest) are e in
-      let b = peel (readB a.value) writeB (fitsB a.value) (partB a.value) (λ b. Ok ((a.value, b.0), b.1)) a.rest (x, rest) a.are a.goes_on in
-      let whole : bytes ≡ (writeA a.value ++ writeB b.value) ++ b.rest = a.parts ∙ ap (λ (r : List ℕ). writeA a.value ++ r) b.parts ∙ sym (append_assoc (writeA a.value) (writeB b.value) b.rest) in
-      subst (λ (y : (A × B) × List ℕ). (bytes ≡ (writeA y.0.0 ++ writeB y.0.1) ++ y.1) × (fitsA y.0.0 × fitsB y.0.0 y.0.1)) (ok_is ((a.value, b.value), b.rest) (x, rest) b.goes_on)
+      let b = peel (readB a.value) writeB (fitsB a.value) (partB a.value a.fit) (λ b. Ok ((a.value, b.0), b.1)) a.rest (x, rest) a.are a.goes_on in
+      let whole = joined (writeA a.value) (writeB b.value) b.rest bytes a.rest a.parts b.parts in
+      let made : (A × B) × List ℕ = ((a.value, b.value), b.rest) in
+      subst (λ (y : (A × B) × List ℕ). (bytes ≡ (writeA y.0.0 ++ writeB y.0.1) ++ y.1) × (fitsA y.0.0 × fitsB y.0.0 y.0.1)) {x = made} (ok_is made (x, rest) b.goes_on)
       (whole, (a.fit, b.fit));
 }
 
@@ -51,27 +55,49 @@ made_part {A = A} {B = B} {read = read} {write = write} {fits = fits} part make 
 
 -- the same part in other words
 pub restated : {A : Type 0} {read other : List ℕ → Read A} {write written : A → List ℕ} {fits fit : A → Type 0} → IsPart read write fits
-    → ((bytes : List ℕ) → read bytes ≡ other bytes) → ((a : A) → write a ≡ written a) → ((a : A) → fits a → fit a) → ((a : A) → fit a → fits a)
+    → ((bytes : List ℕ) → read bytes ≡ other bytes) → ((a : A) → fits a → write a ≡ written a) → ((a : A) → fits a → fit a) → ((a : A) → fit a → fits a)
     → IsPart other written fit
 restated {other = other} part same spelled to from = record {
-  back = λ a rest is. rw (← spelled a) (sym (same _) ∙ part.back a rest (from a is));
+  back = λ a rest is. rw (← spelled a (from a is)) (sym (same _) ∙ part.back a rest (from a is));
   spells = λ bytes a rest are e.
       let x = part.spells bytes a rest are (same bytes ∙ e) in
-      (x.0 ∙ ap (λ (t : List ℕ). t ++ rest) (spelled a), to a x.1);
+      (x.0 ∙ ap (λ (t : List ℕ). t ++ rest) (spelled a x.1), to a x.1);
 }
 
--- ---- keys
+-- ---- what tells nothing
 
-key_same : (bytes : List ℕ)
-    → made_read (λ k. record { object = k.0; rank = k.1.0; depth = k.1.1.0; leaf = k.1.1.1 }) (then_read (number_of w16) (λ a. then_read (number_of w8) (λ b. then_read (number_of w8) (λ c. number_of w32)))) bytes ≡ key_of bytes
-unfolding key_of
-key_same bytes = simp bind_bind
+-- bytes that always stand so are read, and what is left is the bytes behind them
+pub record IsFixed (read : List ℕ → Result (List ℕ) RecordFault) (text : List ℕ) : Type 0 where
+  pub back : (rest : List ℕ) → read (text ++ rest) ≡ Ok rest
+  pub spells : (bytes rest : List ℕ) → AreBytes bytes → read bytes ≡ Ok rest → bytes ≡ text ++ rest
 
-pub key_again : IsPart key_of key_bytes IsWideKey
-unfolding key_bytes
-key_again =
-    restated (made_part (pair_part (number_part w16 (2 ^ 16) wide16) (λ a. pair_part (number_part w8 256 wide8) (λ b. pair_part (number_part w8 256 wide8) (λ c. number_part w32 (2 ^ 32) wide32))))
-    (λ k. record { object = k.0; rank = k.1.0; depth = k.1.1.0; leaf = k.1.1.1 }) (λ k. (k.object, (k.rank, (k.depth, k.leaf)))) (λ k is. refl))
-    key_same (λ k. simp append_assoc)
-    (λ k is. record { object = is.1.0; rank = is.1.1.0; depth = is.1.1.1.0; leaf = is.1.1.1.1 })
-    (λ k is. (refl, (is.object, (is.rank, (is.depth, is.leaf)))))
+-- a part behind such bytes
+abbrev pub behind_read : {A : Type 0} → (List ℕ → Result (List ℕ) RecordFault) → (List ℕ → Read A) → List ℕ → Read A
+behind_read fixed read bytes = fixed bytes >>= λ rest. read rest
+
+pub behind_part : {A : Type 0} {fixed : List ℕ → Result (List ℕ) RecordFault} {text : List ℕ} {read : List ℕ → Read A} {write : A → List ℕ} {fits : A → Type 0}
+    → IsFixed fixed text → IsPart read write fits → IsPart (behind_read fixed read) (λ a. text ++ write a) fits
+behind_part {fixed = fixed} {text = text} {read = read} {write = write} front part = record {
+  back = λ a rest is. rw (append_assoc text (write a) rest, front.back (write a ++ rest)) (part.back a rest is);
+  spells = λ bytes a rest are e.
+      let found = bind_ok (fixed bytes) read (a, rest) e in
+      let stands = front.spells bytes found.0 are found.1 in
+      let x = part.spells found.0 a rest (are_bytes_behind text found.0 (subst AreBytes stands are)) found.2 in
+      (joined text (write a) rest bytes found.0 stands x.0, x.1);
+}
+
+-- ---- ranges
+
+pub inside : (least most n : ℕ) → is_outside least most n ≡ false → (least ≤ n) × (n ≤ most)
+inside least most n e =
+    let x = or_parts (nat_lt n least) (nat_lt most n) e in
+    (ltb-false _ _ x.0, ltb-false _ _ x.1)
+
+pub not_outside : (least most n : ℕ) → least ≤ n → n ≤ most → is_outside least most n ≡ false
+not_outside least most n low high = or_from (nat_lt n least) (nat_lt most n) (le-ltb n least low) (le-ltb most n high)
+
+-- a number that may be one only
+pub only_one : (d n : ℕ) → is_outside d d n ≡ false → d ≡ n
+only_one d n e =
+    let x = inside d d n e in
+    omega (arith, x.0, x.1)

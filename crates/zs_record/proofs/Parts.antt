@@ -173,6 +173,10 @@ taken_part {A = A} read write fits part test fault = record {
       subst (λ (y : A × List ℕ). (bytes ≡ write y.0 ++ y.1) × (fits y.0 × (test y.0 ≡ true))) g.1 (x.parts, (x.fit, g.0));
 }
 
+-- bytes that begin with the one, and then with the other
+pub joined : (a b rest bytes behind : List ℕ) → bytes ≡ a ++ behind → behind ≡ b ++ rest → bytes ≡ (a ++ b) ++ rest
+joined a b rest bytes behind one other = one ∙ (ap (λ (r : List ℕ). a ++ r) other ∙ sym (append_assoc a b rest))
+
 -- a value whose first field is read, and then the others, which fit behind it
 pub bind_part : {A B : Type 0} (read : List ℕ → Read A) (write : A → List ℕ) (fits : A → Type 0) → IsPart read write fits
     → (next : A × List ℕ → Read B) (suffix : B → List ℕ) (field : B → A) (behind : A → B → Type 0) → ((a : A) (b : B) → behind a b → field b ≡ a)
@@ -185,17 +189,8 @@ bind_part {A = A} {B = B} read write fits part next suffix field behind is_field
       let x = peel read write fits part next bytes (b, rest) are e in
       let y = (parts x.value).spells x.rest b rest x.are x.goes_on in
       let same : x.value ≡ field b = sym (is_field x.value b y.1) in
-      let whole : bytes ≡ (write x.value ++ suffix b) ++ rest = x.parts ∙ ap (λ (r : List ℕ). write x.value ++ r) y.0 ∙ sym (append_assoc (write x.value) (suffix b) rest) in
+      let whole = joined (write x.value) (suffix b) rest bytes x.rest x.parts y.0 in
       subst (λ (a : A). (bytes ≡ (write a ++ suffix b) ++ rest) × (fits a × behind a b)) same (whole, (x.fit, y.1));
-}
-
--- all fields are read
-pub end_part : {B : Type 0} (made : B) → IsPart (λ bytes. Ok (made, bytes)) (λ b. []) (λ b. b ≡ made)
-end_part {B = B} made = record {
-  back = λ b rest is. rw is refl;
-  spells = λ bytes b rest are e.
-      let same = ok_is (made, bytes) (b, rest) e in
-      (ap (λ (x : B × List ℕ). x.1) same, sym (ap (λ (x : B × List ℕ). x.0) same));
 }
 
 -- the same part in other words
@@ -212,12 +207,3 @@ same_part read write written fits fit same to from part = record {
 pub within_part : (w : Width) (limit : ℕ) → IsWide w limit → (least most : ℕ) → IsPart (number_within w least most) (number_bytes w) (λ n. (n < limit) × (is_outside least most n ≡ false))
 unfolding number_within
 within_part w limit wide least most = refused_part (number_of w) (number_bytes w) (λ n. n < limit) (number_part w limit wide) (is_outside least most) faults.Field
-
--- all fields are read, and taken where a test holds
-pub taken_end : {B : Type 0} (test : Bool) (fault : RecordFault) (made : B) → IsPart (λ bytes. cond test (Ok (made, bytes)) (Err fault)) (λ b. []) (λ b. (b ≡ made) × (test ≡ true))
-taken_end {B = B} test fault made = record {
-  back = λ b rest is. rw (is.0, is.1) refl;
-  spells = λ bytes b rest are e.
-      let g = guard_true test fault (made, bytes) (b, rest) e in
-      (ap (λ (x : B × List ℕ). x.1) g.1, (sym (ap (λ (x : B × List ℕ). x.0) g.1), g.0));
-}

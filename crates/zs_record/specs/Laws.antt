@@ -6,7 +6,6 @@ use Rattle.zs_ids.specs.declared.key.Key.{Key}
 use Rattle.zs_ranges.specs.declared.set.Interval.{Interval}
 use Rattle.zs_sum.specs.Laws.{AreBytes, IsPointer}
 use Rattle.zs_record.specs.Reading.{Read}
-use Rattle.zs_record.specs.Numbers.{is_outside}
 use Rattle.zs_record.specs.Names.{is_name, name_of}
 use Rattle.zs_record.specs.Blocks.{key_of, is_key, is_behind, level_at, is_size_at, entries_of}
 use Rattle.zs_record.specs.Logs.{after, set_of}
@@ -23,10 +22,14 @@ abbrev pub FitAll : {S A : Type 0} → (S → A → Type 0) → (S → A → S) 
 FitAll fits next state [] = Unit {0}
 FitAll fits next state (a ∷ items) = fits state a × FitAll fits next (next state a) items
 
+-- the number is from least to most
+abbrev pub IsFrom : ℕ → ℕ → ℕ → Type 0
+IsFrom least most n = (least ≤ n) × (n ≤ most)
+
 -- a name of a length from least to most
 pub record IsName (least most : ℕ) (name : Name) : Type 0 where
   pub byte : name.len < 256
-  pub len : is_outside least most name.len ≡ false
+  pub len : IsFrom least most name.len
   pub twelve : length name.bytes ≡ 12
   pub text : is_name name.len name.bytes ≡ true
 
@@ -50,19 +53,16 @@ pub record IsEntry (last : Option Key) (e : Key × Bp) : Type 0 where
   pub behind : is_behind last e.0 ≡ true
   pub pointer : IsPointerAt e.0 e.1
 
--- an interval that begins at `from` or later and ends by `last`
-pub record IsSpan (last from : ℕ) (s : Interval) : Type 0 where
-  pub wide_first : s.first < 2 ^ 64
-  pub wide_last : s.last < 2 ^ 64
-  pub first_within : is_outside 1 last s.first ≡ false
-  pub last_within : is_outside 1 last s.last ≡ false
-  pub first_from : nat_lt s.first from ≡ false
-  pub last_from : nat_lt s.last s.first ≡ false
+-- an interval of groups from 1 on that begins at `start` or later and ends by `end`
+pub record IsSpan (end start : ℕ) (s : Interval) : Type 0 where
+  pub positive : 1 ≤ s.first
+  pub first : start ≤ s.first
+  pub rises : s.first ≤ s.last
+  pub last : s.last ≤ end
 
 -- at most so many intervals of a set of groups from 1 to `last`
 pub record IsSet (most last : ℕ) (spans : List Interval) : Type 0 where
-  pub wide : length spans < 2 ^ 32
-  pub few : is_outside 0 most (length spans) ≡ false
+  pub few : length spans ≤ most
   pub rise : FitAll (IsSpan last) after 0 spans
 
 -- so many entries behind the last key
@@ -75,4 +75,4 @@ pub record PartsLaw : Type 0 where
   pub names : (least most : ℕ) → IsPart (name_of least most) name_bytes (IsName least most)
   pub keys : IsPart key_of key_bytes IsWideKey
   pub entries : (count : ℕ) (last : Option Key) → IsPart (entries_of count last) (flat_map entry_bytes) (AreEntries count last)
-  pub sets : (most last : ℕ) → IsPart (set_of most last) set_bytes (IsSet most last)
+  pub sets : (most last : ℕ) → most < 2 ^ 32 → last < 2 ^ 64 → IsPart (set_of most last) set_bytes (IsSet most last)

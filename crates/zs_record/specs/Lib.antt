@@ -11,5 +11,6 @@ pub mod ScanSpelling
 pub mod Sets
 pub mod Spelling
 pub mod Stored
+pub mod StoredLaws
 pub mod StoredSpelling
 pub mod Todo

@@ -10,7 +10,9 @@
 //! `StoredSpelling`.
 //! Promise: each reader answers exactly what its function gives, or that memory was wanting where it takes memory. So the
 //! fault at the earliest place is told, and at one place Short before Field before Order. Each writer puts just its part's
-//! bytes. Names, keys, entries and sets have one spelling (`parts_law`, over `IsPart` of `specs/Laws`).
+//! bytes. A record has one spelling: what is written of it is read back field by field, but for the places of its entries'
+//! calls in the journals, and what is read has no other bytes (`stored_law`). So has each part of it (`parts_law`,
+//! `stored_parts_law`, over `IsPart` of `specs/Laws`); what a part may have stands in `specs/Laws` and `specs/StoredLaws`.
 //! Cost: one pass. No list is reserved for more items than the bytes that are left can fill, and whether a piece or an id was
 //! there already does not go through those before it.
 //!
@@ -37,7 +39,7 @@ mod writing;
 
 pub use fault::RecordFault;
 pub use head::Head;
-pub use laws::parts_law;
+pub use laws::{parts_law, stored_law, stored_parts_law};
 pub use mirrors::Mirrors;
 pub use record_writing::bytes_of_stored;
 pub use scan::{Pass, Running};
