@@ -37,3 +37,4 @@ pub mod Found
 pub mod ApplyItems
 pub mod DestroyItems
 pub mod NextBlocks
+pub mod Roots

@@ -5,3 +5,4 @@ pub mod Refusals
 pub mod Made
 pub mod Frees
 pub mod Freeing
+pub mod Roots

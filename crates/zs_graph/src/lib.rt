@@ -5,10 +5,11 @@
 //! Model: the list of datasets in order of id, each with the entries of its map, and the id that the next one gets
 //! (`specs/View`).
 //! Promise: the datasets are always valid; each call makes the one change that its name says, or refuses it for the first of the
-//! reasons that hold (`specs/Refusals`, `specs/Made`) and changes nothing. None of the calls that are here frees anything: they
-//! make a filesystem, a clone and a snapshot, and swap two heads. What a destroyed dataset and blocks written over others free
-//! is told in `specs/Frees`, with its laws (`proofs/FreeingDestroy`, `proofs/FreeingApply`); the calls are still to come.
-//! A look-up by id is a binary search, one by name a walk of the datasets.
+//! reasons that hold (`specs/Refusals`, `specs/Made`) and changes nothing. A filesystem, a clone, a snapshot and a swap free
+//! nothing. `destroy` and `apply` answer the pieces that are live no longer, in order of place, each with its size and sum, and
+//! no other (`AreFreed` of `zs_ids`). What a change frees is found before it is made (`specs/Frees`).
+//! A look-up by id is a binary search, one by name a walk of the datasets. `destroy` is one pass over the blocks that are born
+//! after the dataset's parent, with a look-up of each in the child; `apply` two look-ups for each change; both sort what they free.
 //!
 //! To change what a dataset is see `zs_ids/specs/Graph`; a new kind of change begins in `zs_ids/specs/GraphChange` with its law.
 #![tactic(auto)]
@@ -16,14 +17,16 @@
 pub mod changes;
 pub mod fault;
 pub mod freed;
+mod freeing;
 pub mod graph;
 pub mod lookups;
-mod freeing;
 mod refusals;
 
 pub use fault::GraphFault;
 pub use freed::Freed;
 pub use graph::Graph;
 
+#[cfg(test)]
+mod frees;
 #[cfg(test)]
 mod tests;

@@ -105,8 +105,32 @@ fn clones_a_snapshot(rt: HostRuntime) -> Result<(), Fail> {
         graph.clone_of(DsId(1), &name(99)),
         Err(GraphFault::NotSnapshot)
     );
+    assert_eq!(rt;
+        graph.clone_of(DsId(9), &name(99)),
+        Err(GraphFault::NoDataset)
+    );
+    assert_eq!(rt; graph.clone_of(DsId(2), &name(98)), Err(GraphFault::Exists));
     assert_eq!(rt; graph.swap(DsId(1), DsId(3)), Ok(()));
     assert_eq!(rt; graph.swap(DsId(1), DsId(1)), Err(GraphFault::NotSiblings));
     assert_eq!(rt; graph.swap(DsId(1), DsId(2)), Err(GraphFault::NotHead));
+    assert_eq!(rt; graph.swap(DsId(1), DsId(9)), Err(GraphFault::NoDataset));
+    Ok(())
+}
+
+#[test]
+fn refuses_too_many(rt: HostRuntime) -> Result<(), Fail> {
+    let mut graph: Graph<Flat> = Graph::new(rt.alloc())?;
+    for byte in 0..254u8 {
+        assert!(rt; graph.make_fs(&name(byte)).is_ok());
+    }
+    assert_eq!(rt; graph.make_fs(&name(255)), Err(GraphFault::TooMany));
+    assert_eq!(rt;
+        graph.clone_of(DsId::ORIGIN, &name(255)),
+        Err(GraphFault::TooMany)
+    );
+    assert_eq!(rt;
+        graph.may_snapshot(DsId(1), &name(115), 3),
+        Err(GraphFault::TooMany)
+    );
     Ok(())
 }
