@@ -1,7 +1,6 @@
 -- What may be done where no refusal stands.
-use Rattle.std.proofs.Common.{◌≡◌, ◌≢◌, ◌<◌, ◌≤◌, ◌&&◌, ◌||◌, ◌==◌, ℕ, Bool, true, false, not, List, [], ◌∷◌, length, Option, refl, sym, ap, subst, ◌∙◌, arith}
+use Rattle.std.proofs.Common.{◌≡◌, ◌≢◌, ◌<◌, ◌≤◌, ◌&&◌, ◌==◌, ℕ, Bool, true, false, not, List, [], ◌∷◌, length, Option, refl, sym, subst, ◌∙◌, arith}
 use Rattle.std.specs.Prelude.{Some, None, if◌then◌else◌, IsTrue}
-use Rattle.std.specs.List.{list_any}
 use Rattle.std.specs.Cmp.Lexicographic.{pointwise}
 use Rattle.std.proofs.lemmas.Bool.{true≢false, or_parts, eq-eqb, eqb-false}
 use Rattle.zs_ids.specs.declared.dataset.DsId.{DsId}
@@ -15,9 +14,8 @@ use Rattle.zs_graph.specs.declared.fault.GraphFault.{GraphFault}
 use Rattle.zs_graph.specs.declared.fault.GraphFault.TheVariants.{Exists, NotHead, NotSnapshot, SameTxg, TooMany}
 use Rattle.zs_graph.specs.View.{GraphView, IsGraph}
 use Rattle.zs_graph.specs.Refusals.{has_head_named, has_snapshot_named, is_full, if_full, fs_refusal, clone_refusal, snapshot_refusal}
-use Rattle.zs_graph.proofs.Lists.{from-find, some_is, some≢none}
+use Rattle.zs_graph.proofs.Lists.{from-find, some≢none}
 use Rattle.zs_graph.proofs.Seen.{none_passes}
-use mathlib.Core.Logic.{inl, inr}
 
 -- a reason that does not hold, and those behind it
 pub unless : (b : Bool) (why : GraphFault) (rest : Option GraphFault) → (if b then Some why else rest) ≡ None → (b ≡ false) × (rest ≡ None)

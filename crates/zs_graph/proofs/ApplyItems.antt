@@ -1,8 +1,8 @@
 -- The items that are found where blocks are put over those of a head are those that this frees.
-use Rattle.std.proofs.Common.{◌≡◌, ◌≢◌, ◌⊎◌, ◌<◌, ◌≤◌, ◌+◌, ℕ, Bool, true, false, List, [], ◌∷◌, Option, refl, sym, ap, subst, ◌∙◌, arith}
-use Rattle.std.specs.Prelude.{◌↔◌, slice_get, nat_lt, Some, None, if◌then◌else◌}
+use Rattle.std.proofs.Common.{◌≡◌, ◌⊎◌, ◌<◌, ◌≤◌, ◌+◌, ℕ, Bool, true, false, List, [], Option, refl, sym, ap, subst, ◌∙◌, arith}
+use Rattle.std.specs.Prelude.{slice_get, nat_lt, Some, None, if◌then◌else◌}
 use Rattle.std.specs.List.Sorted.{IsPermutation, IsSortedByKey}
-use Rattle.std.proofs.lemmas.Bool.{true≢false, ltb-true, lt-ltb}
+use Rattle.std.proofs.lemmas.Bool.{ltb-true, lt-ltb}
 use Rattle.std.proofs.lemmas.List.Sorted.{IsPermutation-sym}
 use Rattle.zs_ids.specs.declared.key.Key.{Key}
 use Rattle.zs_ids.specs.declared.block.Bp.{Bp}
@@ -26,7 +26,7 @@ use Rattle.zs_graph.proofs.SortedItems.{strictly, has_moved}
 use Rattle.zs_graph.proofs.Found.{at_some, entry_at}
 use Rattle.zs_graph.proofs.Searches.{changed_at}
 use Rattle.zs_graph.proofs.FreeingApply.{apply_frees}
-use Rattle.zs_graph.proofs.Lists.{has-map, from-map}
+use Rattle.zs_graph.proofs.Lists.{from-map}
 use mathlib.Core.Logic.{inl, inr}
 
 -- the items of a change are those of a block at its key that is born after `start`

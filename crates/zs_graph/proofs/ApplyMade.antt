@@ -1,15 +1,13 @@
 -- Blocks are applied to a head that is named by its index: the datasets stay valid.
-use Rattle.std.proofs.Common.{◌≡◌, ◌<◌, ◌≤◌, ◌+◌, ℕ, Bool, true, false, List, Option, length, refl, sym, ap, subst, ◌∙◌, arith}
-use Rattle.std.specs.Prelude.{map, slice_get, slice_set, Some, None, if◌then◌else◌}
+use Rattle.std.proofs.Common.{◌≡◌, ◌<◌, ◌+◌, ℕ, Bool, true, false, List, length, refl, sym, ap, subst, ◌∙◌, arith}
+use Rattle.std.specs.Prelude.{slice_get, Some, None, if◌then◌else◌}
 use Rattle.zs_ids.specs.declared.key.Key.{Key}
 use Rattle.zs_ids.specs.declared.block.Bp.{Bp}
-use Rattle.zs_ids.specs.declared.block.Item.{Item}
 use Rattle.zs_ids.specs.declared.dataset.DsId.{DsId}
 use Rattle.zs_ids.specs.Blocks.{entries_with, IsInKeyOrder}
-use Rattle.zs_ids.specs.Graph.{Has, Dataset, Graph}
+use Rattle.zs_ids.specs.Graph.{Dataset, Graph}
 use Rattle.zs_ids.specs.GraphTree.{dataset_at}
 use Rattle.zs_ids.specs.GraphChange.{MayPut, AreFreed, applied}
-use Rattle.zs_graph.specs.declared.fault.GraphFault.{GraphFault}
 use Rattle.zs_graph.specs.declared.fault.GraphFault.TheVariants.{NotHead}
 use Rattle.zs_graph.specs.declared.freed.Freed.{Freed}
 use Rattle.zs_graph.specs.View.{GraphView, IsGraph}

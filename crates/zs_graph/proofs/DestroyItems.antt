@@ -1,6 +1,6 @@
 -- The items that are found where a dataset is destroyed are those that this frees.
-use Rattle.std.proofs.Common.{◌≡◌, ◌≢◌, ◌<◌, ◌≤◌, ◌+◌, ℕ, Bool, true, false, List, [], ◌∷◌, Option, refl, sym, ap, subst, ◌∙◌, arith}
-use Rattle.std.specs.Prelude.{◌↔◌, ◌==◌, filter, nat_lt, option_to_list, slice_get, Some, None, if◌then◌else◌}
+use Rattle.std.proofs.Common.{◌≡◌, ◌≤◌, ℕ, Bool, true, false, List, [], Option, refl, sym, ap, subst, ◌∙◌, arith}
+use Rattle.std.specs.Prelude.{filter, nat_lt, option_to_list, slice_get, Some, None, if◌then◌else◌}
 use Rattle.std.specs.Ordering.{is_le}
 use Rattle.std.specs.List.Sorted.{IsPermutation, IsSortedByKey}
 use Rattle.std.proofs.lemmas.Bool.{true≢false, ltb-true, lt-ltb, eqb-true, eq-eqb}
@@ -14,14 +14,13 @@ use Rattle.zs_ids.specs.Key.{key_cmp, root_key}
 use Rattle.zs_ids.specs.Blocks.{bp_at}
 use Rattle.zs_ids.specs.Piece.{piece_cmp}
 use Rattle.zs_ids.specs.Graph.{Has, Dataset, Graph, pieces_of}
-use Rattle.zs_ids.specs.GraphTree.{start_of, entries_of, dataset_at, IsHome, IsParent}
+use Rattle.zs_ids.specs.GraphTree.{start_of, entries_of, IsHome}
 use Rattle.zs_ids.specs.GraphValid.{IsValid}
 use Rattle.zs_ids.specs.GraphChange.{destroyed, MayDestroy, AreFreed}
 use Rattle.zs_graph.specs.View.{GraphView, IsGraph}
 use Rattle.zs_graph.specs.Frees.{IsPieceOf, held_by, IsFreedByDestroy}
 use Rattle.zs_graph.specs.Freeing.{items_of, is_born, items_unheld, blocks_from, items_from}
 use Rattle.zs_graph.proofs.Lists.{from-map, has-filter, from-filter, some_is}
-use Rattle.zs_graph.proofs.Births.{last_in_snapshot}
 use Rattle.zs_graph.proofs.Graphs.{dataset_is, from-children}
 use Rattle.zs_graph.proofs.Climbs.{one_home}
 use Rattle.zs_graph.proofs.Keys.{one_key, root_first}
@@ -30,7 +29,7 @@ use Rattle.zs_graph.proofs.ItemsOf.{pieces_in, block_pieces, from_block, to_bloc
 use Rattle.zs_graph.proofs.SortedItems.{strictly, has_moved}
 use Rattle.zs_graph.proofs.Found.{at_some, entry_at}
 use Rattle.zs_graph.proofs.FreeingDestroy.{destroy_frees, gone_births}
-use mathlib.Core.Logic.{inl, inr}
+use mathlib.Core.Logic.{inl}
 
 module _ (g : Graph) (n : ℕ) (valid : IsValid g n) (gone : Dataset) (next : Option DsId) (may : MayDestroy g gone next) where
   abbrev start : ℕ

@@ -1,6 +1,6 @@
 -- A dataset is destroyed: the datasets stay valid.
-use Rattle.std.proofs.Common.{◌≡◌, ◌≢◌, ◌<◌, ◌≤◌, ◌&&◌, ◌||◌, ℕ, Bool, true, false, List, [], ◌∷◌, length, Option, refl, sym, ap, subst, ◌∙◌, arith}
-use Rattle.std.specs.Prelude.{IfSome, find, map, nat_lt, option_to_list, slice_get, unwrap_or, Some, None, if◌then◌else◌}
+use Rattle.std.proofs.Common.{◌≡◌, ◌≢◌, ◌<◌, ◌≤◌, ◌&&◌, ◌||◌, ℕ, false, List, [], ◌∷◌, length, Option, refl, sym, ap, subst, ◌∙◌, arith}
+use Rattle.std.specs.Prelude.{IfSome, find, nat_lt, option_to_list, slice_get, unwrap_or, Some, None, if◌then◌else◌}
 use Rattle.std.proofs.lemmas.Bool.{true≢false, or_parts, ltb-false}
 use Rattle.zs_ids.specs.declared.dataset.DsId.{DsId}
 use Rattle.zs_ids.specs.declared.dataset.TheConstants.DsId.{ORIGIN}
@@ -11,12 +11,12 @@ use Rattle.zs_ids.specs.GraphChange.{MayDestroy, AreFreed, destroyed}
 use Rattle.zs_graph.specs.declared.fault.GraphFault.{GraphFault}
 use Rattle.zs_graph.specs.declared.fault.GraphFault.TheVariants.{HasClones, HasSnapshots}
 use Rattle.zs_graph.specs.declared.freed.Freed.{Freed}
-use Rattle.zs_graph.specs.View.{GraphView, IsGraph, IsIndexOf}
+use Rattle.zs_graph.specs.View.{GraphView, IsGraph}
 use Rattle.zs_graph.specs.ByIndex.{IsPlaceOf, removed_at}
 use Rattle.zs_graph.specs.Refusals.{destroy_refusal, is_owned_by, parent_in}
 use Rattle.zs_graph.specs.Made.{IsDestroyed}
-use Rattle.zs_graph.proofs.Lists.{some_is, some≢none}
-use Rattle.zs_graph.proofs.Graphs.{id_is, is_id-same, dataset_is, from-children, has-child}
+use Rattle.zs_graph.proofs.Lists.{some≢none}
+use Rattle.zs_graph.proofs.Graphs.{id_is, is_id-same, has-child}
 use Rattle.zs_graph.proofs.Kept.{within_kept}
 use Rattle.zs_graph.proofs.DestroyTree as tree
 use Rattle.zs_graph.proofs.Allowed.{unless, found_at}

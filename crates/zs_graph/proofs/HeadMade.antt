@@ -1,5 +1,5 @@
 -- A head is made on a snapshot: the datasets stay valid, and nothing is freed.
-use Rattle.std.proofs.Common.{◌≡◌, ◌<◌, ◌≤◌, ◌++◌, ◌∷◌, [], List, ℕ, refl, sym, ap, subst, ◌∙◌, arith}
+use Rattle.std.proofs.Common.{◌≡◌, ◌<◌, ◌++◌, ◌∷◌, [], List, refl, sym, ap, subst, ◌∙◌, arith}
 use Rattle.std.specs.Prelude.{Some, None, true}
 use Rattle.zs_ids.specs.declared.key.Key.{Key}
 use Rattle.zs_ids.specs.declared.block.Bp.{Bp}
@@ -7,7 +7,7 @@ use Rattle.zs_ids.specs.declared.dataset.DsId.{DsId}
 use Rattle.zs_ids.specs.declared.dataset.Name.{Name}
 use Rattle.zs_ids.specs.declared.dataset.TheConstants.DsId.{ORIGIN}
 use Rattle.zs_ids.specs.declared.dataset.TheConstants.Name.{EMPTY}
-use Rattle.zs_ids.specs.Graph.{Has, Dataset, Graph}
+use Rattle.zs_ids.specs.Graph.{Dataset}
 use Rattle.zs_ids.specs.GraphTree.{dataset_at}
 use Rattle.zs_ids.specs.GraphValid.{origin}
 use Rattle.zs_ids.specs.GraphChange.{MayClone, cloned, head_on}

@@ -1,15 +1,14 @@
 -- What stays of a valid graph where datasets keep what they hold.
 use Rattle.std.proofs.Common.{◌≡◌, ◌≤◌, ℕ, Bool, true, false, cond, List, refl, sym, ap, subst, ◌∙◌, arith}
-use Rattle.std.specs.Prelude.{IsTrue, Option, if◌then◌else◌}
+use Rattle.std.specs.Prelude.{Option, if◌then◌else◌}
 use Rattle.zs_ids.specs.declared.key.Key.{Key}
 use Rattle.zs_ids.specs.declared.block.Bp.{Bp}
 use Rattle.zs_ids.specs.declared.block.Piece.{Piece}
 use Rattle.zs_ids.specs.declared.dataset.DsId.{DsId}
 use Rattle.zs_ids.specs.Blocks.{IsInKeyOrder}
-use Rattle.zs_ids.specs.Graph.{Has, Dataset, Graph, pieces_of, IsLive}
+use Rattle.zs_ids.specs.Graph.{Has, Dataset, Graph, IsLive}
 use Rattle.zs_ids.specs.GraphTree.{IsHome}
 use Rattle.zs_ids.specs.GraphValid.{last_birth, HasBlocks, Shares, Room, IsWithin, AreApart}
-use mathlib.Core.Logic.{inl, inr}
 
 -- the same dataset, but for its parent
 pub record IsSame (x y : Dataset) : Type 0 where

@@ -1,5 +1,5 @@
 -- A walk over the blocks of a map, each looked for behind the one before, and one over some changes.
-use Rattle.std.proofs.Common.{◌≡◌, ◌<◌, ◌+◌, ℕ, suc, List, [], ◌∷◌, ◌++◌, Option, length, get_or, drop, append_assoc, append-nil, sym, ap, subst, ◌∙◌, arith}
+use Rattle.std.proofs.Common.{◌≡◌, ◌<◌, ◌+◌, ℕ, suc, List, ◌∷◌, ◌++◌, length, get_or, drop, append_assoc, append-nil, sym, ap, ◌∙◌, arith}
 use Rattle.std.specs.Prelude.{flat_map, Some, None}
 use Rattle.std.proofs.lemmas.List.{drop_more}
 use Rattle.zs_ids.specs.declared.key.Key.{Key}

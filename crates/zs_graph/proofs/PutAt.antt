@@ -1,5 +1,5 @@
 -- A dataset of the code's list changed at its index, as contracts see it.
-use Rattle.std.proofs.Common.{◌≡◌, ◌≢◌, ◌<◌, ◌++◌, false, Option, ℕ, suc, zero, List, [], ◌∷◌, length, get_or, set, refl, sym, ap, subst, ◌∙◌, arith, Some}
+use Rattle.std.proofs.Common.{◌≡◌, ◌≢◌, ◌<◌, ◌++◌, false, Option, ℕ, suc, zero, List, [], ◌∷◌, length, get_or, refl, sym, ap, ◌∙◌, arith, Some}
 use Rattle.std.specs.Prelude.{map, slice_get, slice_set, Result, Ok, Err, OnErr}
 use Rattle.std.specs.List.{remove}
 use Rattle.std.proofs.lemmas.List.{length-map, map-set}

@@ -1,6 +1,6 @@
 -- A dataset that is taken out at its index is destroyed.
-use Rattle.std.proofs.Common.{◌≡◌, ◌≢◌, ◌<◌, ◌++◌, ℕ, suc, zero, Bool, true, false, not, cond, List, [], ◌∷◌, Option, take, drop, refl, sym, ap, subst, ◌∙◌, arith}
-use Rattle.std.specs.Prelude.{map, filter, option_to_list, slice_get, slice_set, Some, None, if◌then◌else◌}
+use Rattle.std.proofs.Common.{◌≡◌, ◌≢◌, ◌<◌, ℕ, suc, zero, Bool, false, not, cond, List, [], ◌∷◌, Option, refl, sym, ap, subst, ◌∙◌, arith}
+use Rattle.std.specs.Prelude.{map, option_to_list, slice_get, slice_set, Some, None, if◌then◌else◌}
 use Rattle.std.specs.List.{remove}
 use Rattle.std.proofs.lemmas.Bool.{true≢false, cases_Bool, not_from_false}
 use Rattle.zs_ids.specs.declared.dataset.DsId.{DsId}
@@ -8,7 +8,7 @@ use Rattle.zs_ids.specs.Graph.{Has, Dataset, Graph}
 use Rattle.zs_ids.specs.GraphTree.{is_id, stands_on, IsParent}
 use Rattle.zs_ids.specs.GraphValid.{IsInIdOrder}
 use Rattle.zs_ids.specs.GraphChange.{destroyed, without, off, MayDestroy}
-use Rattle.zs_graph.specs.ByIndex.{adopted_at, removed_at, IsPlaceOf}
+use Rattle.zs_graph.specs.ByIndex.{removed_at, IsPlaceOf}
 use Rattle.zs_graph.proofs.Lists.{some_is, some≢none}
 use Rattle.zs_graph.proofs.Graphs.{is_id-same, is_id-other, id_is, one_dataset, dataset_is, from-children, has-child, stands_on-is, stands_on-from}
 use Rattle.zs_graph.proofs.Seen.{has_at}

@@ -1,7 +1,6 @@
 -- Where a binary search for an id ends.
-use Rattle.std.proofs.Common.{◌≡◌, ◌≢◌, ◌<◌, ◌≤◌, ℕ, suc, zero, Bool, true, false, List, [], ◌∷◌, ◌-◌, length, length-drop, take, drop, get_or, Option, refl, sym, ap, subst, ◌∙◌, arith}
-use Rattle.std.specs.Prelude.{map, filter, find, option_map, slice_get, slice_set, Some, None, nat_lt, nat_le, if◌then◌else◌}
-use Rattle.std.specs.List.{AllWithin}
+use Rattle.std.proofs.Common.{◌≡◌, ◌≢◌, ◌<◌, ◌≤◌, ℕ, suc, zero, Bool, true, false, List, [], ◌∷◌, ◌-◌, length, length-drop, take, drop, get_or, refl, sym, ap, subst, ◌∙◌, arith}
+use Rattle.std.specs.Prelude.{map, filter, option_map, slice_get, slice_set, Some, None, nat_le, if◌then◌else◌}
 use Rattle.std.specs.List.Sorted.{IsNonDecreasingBy, IsPartitionPoint, IsPartitionedBy}
 use Rattle.std.specs.Ordering.{nat_cmp, ordering_index}
 use Rattle.std.specs.declared.cmp.Ordering.{Ordering}
@@ -15,7 +14,7 @@ use Rattle.zs_ids.specs.declared.key.Key.{Key}
 use Rattle.zs_ids.specs.declared.block.Bp.{Bp}
 use Rattle.zs_ids.specs.declared.dataset.DsId.{DsId}
 use Rattle.zs_ids.specs.Graph.{Has, Dataset, Graph}
-use Rattle.zs_ids.specs.GraphTree.{is_id, is_above, dataset_at}
+use Rattle.zs_ids.specs.GraphTree.{is_id, is_above}
 use Rattle.zs_ids.specs.GraphValid.{IsInIdOrder}
 use Rattle.zs_graph.specs.declared.graph.Set.{Set}
 use Rattle.zs_graph.specs.View.{dataset_of, IsIndexOf}

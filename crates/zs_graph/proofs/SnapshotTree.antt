@@ -1,5 +1,5 @@
 -- The graph with a new snapshot: its datasets, its tree and its validity.
-use Rattle.std.proofs.Common.{◌≡◌, ◌≢◌, ◌<◌, ◌≤◌, ◌+◌, ℕ, Bool, false, [], ◌∷◌, length, refl, sym, ap, subst, ◌∙◌, arith, length-append, suc}
+use Rattle.std.proofs.Common.{◌≡◌, ◌≢◌, ◌<◌, ◌≤◌, ◌+◌, ℕ, Bool, false, [], ◌∷◌, length, refl, sym, ap, subst, ◌∙◌, arith, length-append}
 use Rattle.std.specs.Prelude.{map, Some, if◌then◌else◌}
 use Rattle.std.proofs.lemmas.Bool.{true≢false, cases_order}
 use Rattle.zs_ids.specs.declared.key.Key.{Key}

@@ -5,7 +5,7 @@ use Rattle.zs_ids.specs.declared.key.Key.{Key}
 use Rattle.zs_ids.specs.declared.block.Bp.{Bp}
 use Rattle.zs_ids.specs.declared.block.Item.{Item}
 use Rattle.zs_ids.specs.declared.block.Place.{Place}
-use Rattle.zs_ids.specs.Key.{key_cmp, root_key}
+use Rattle.zs_ids.specs.Key.{key_cmp}
 use Rattle.zs_ids.specs.Blocks.{bp_at}
 use Rattle.zs_ids.specs.Graph.{Has}
 

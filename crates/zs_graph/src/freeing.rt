@@ -80,7 +80,12 @@ fn items_at<T: Blocks>(
 }
 
 /// Adds the items of the block at a key, where it is born after `start`.
-fn add_at<T: Blocks>(items: &mut Vec<Item>, blocks: &T, key: Key, start: u64) -> Result<(), AllocError>
+fn add_at<T: Blocks>(
+    items: &mut Vec<Item>,
+    blocks: &T,
+    key: Key,
+    start: u64,
+) -> Result<(), AllocError>
     ensures { OnOk result (items.new.items ≡ items.old.items ++ items_after start (bp_at (T.entries blocks.now) key)) }
 {
     match blocks.get(key) {
@@ -110,7 +115,12 @@ fn items_not_held<T: Blocks>(
 }
 
 /// Adds the items of the block at a key, where no block that is born with it is held there.
-fn add_unheld<T: Blocks>(items: &mut Vec<Item>, key: Key, bp: &Bp, held: Option<&T>) -> Result<(), AllocError>
+fn add_unheld<T: Blocks>(
+    items: &mut Vec<Item>,
+    key: Key,
+    bp: &Bp,
+    held: Option<&T>,
+) -> Result<(), AllocError>
     ensures { OnOk result
         (items.new.items ≡ items.old.items ++ items_unheld (held_in (option_map (λ b. T.entries b.now) held.entry)) (key, bp.now)) }
 {

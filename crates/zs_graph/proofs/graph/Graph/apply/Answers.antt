@@ -1,5 +1,5 @@
 -- The head has the blocks, and the datasets stay valid.
-use Rattle.std.proofs.Common.{◌≡◌, ap, sym, subst, ◌∙◌, refl}
+use Rattle.std.proofs.Common.{ap, sym, subst, ◌∙◌, refl}
 use Rattle.zs_ids.specs.GraphChange.{AreFreed}
 use Rattle.zs_graph.specs.View.{GraphView, IsGraph}
 use Rattle.zs_graph.specs.ByIndex.{applied_at}

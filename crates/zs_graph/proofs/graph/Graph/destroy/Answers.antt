@@ -1,9 +1,9 @@
 -- The dataset is taken out, and its child gets its parent.
-use Rattle.std.proofs.Common.{◌≡◌, ap, sym, subst, ◌∙◌, refl}
+use Rattle.std.proofs.Common.{ap, sym, subst, ◌∙◌, refl}
 use Rattle.zs_ids.specs.GraphChange.{AreFreed, destroyed}
 use Rattle.zs_graph.specs.View.{GraphView, IsGraph}
 use Rattle.zs_graph.specs.ByIndex.{removed_at}
-use Rattle.zs_graph.proofs.DestroyMade.{may_take, spot_within, taken_kept, taken_made}
+use Rattle.zs_graph.proofs.DestroyMade.{may_take, taken_kept, taken_made}
 use Rattle.zs_graph.proofs.graph.Graph.destroy.Goals as goal
 
 pub freed_by_removal-requires-clause-only : goal.freed_by_removal-requires-clause-only

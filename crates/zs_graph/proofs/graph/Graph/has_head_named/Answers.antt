@@ -1,5 +1,5 @@
 -- A test of the datasets as contracts see them.
-use Rattle.std.proofs.Common.{◌&&◌, not, sym, ◌∙◌}
+use Rattle.std.proofs.Common.{◌&&◌, sym, ◌∙◌}
 use Rattle.zs_ids.specs.GraphTree.{same_name}
 use Rattle.zs_graph.specs.View.{dataset_of}
 use Rattle.zs_graph.proofs.Seen.{any-mapped}
