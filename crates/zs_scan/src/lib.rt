@@ -8,6 +8,9 @@
 //! Promise: each call keeps the scan the datasets' own (`specs/Covered`): its state is sound, each live piece in scope is
 //! done or ahead of the walk, what waits or flies is live, and all that is in flight lies in the pool's room, also what was
 //! freed since. A scan finishes exactly where it is complete, and has then checked every live piece in its scope.
+//! A snapshot, a swap and a destroyed dataset, of which the scan is told, move the walk and keep it the datasets' own, and
+//! so do clones and later transaction groups, of which it is not told (`specs/Changes`). Where a change frees pieces, the
+//! scan is theirs but for these until it is told of them in one pass.
 //! A turn of the walk puts just the pieces of the turn table. A batch is the lowest pieces of its mirror. A verdict makes
 //! an entry for each piece of its batch that was not freed and whose scan still runs, and for no other; each has the copies
 //! of a mirror of the scope's width. A freed piece leaves the queue, and gets no entry if it flies. A call that was refused
@@ -27,7 +30,7 @@
 //! and the block is met again when there is room.
 //!
 //! To change what waits see `zs_queue`; the turns `zs_walk`; what a call makes of a scan `specs/Steps` and `specs/Walks`;
-//! what is kept true of a scan `specs/Kept`.
+//! what is kept true of a scan `specs/Kept`; how it stays the datasets' own while these change `specs/Changes`.
 #![tactic(auto)]
 
 pub mod batch;
