@@ -1,24 +1,21 @@
 -- Datasets have one spelling.
-use Rattle.std.proofs.Common.{◌≡◌, ℕ, ◌-◌, ◌^◌, ◌<◌, ◌≤◌, ◌==◌, Bool, true, false, cond, List, [], ◌∷◌, ◌++◌, length, Option, Some, None, Result, Ok, Err, refl, sym, ap, subst, ◌∙◌, append_assoc, arith, inl, inr}
+use Rattle.std.proofs.Common.{◌≡◌, ℕ, ◌-◌, ◌^◌, ◌<◌, ◌≤◌, ◌==◌, Bool, true, false, cond, List, ◌++◌, length, Option, Some, None, refl, ap, subst, append_assoc, arith, inl, inr}
 use Rattle.std.specs.Int.{w8, w32, w64}
 use Rattle.std.specs.List.{flat_map}
 use Rattle.std.specs.Option.{IfSome}
-use Rattle.std.proofs.lemmas.Bool.{eqb-false, ne_eqb, cases_eq}
-use Rattle.zs_ids.specs.declared.block.Bp.{Bp}
+use Rattle.std.proofs.lemmas.Bool.{ne_eqb, cases_eq}
 use Rattle.zs_ids.specs.declared.dataset.DsId.{DsId}
 use Rattle.zs_ids.specs.declared.dataset.Name.{Name}
-use Rattle.zs_ids.specs.declared.key.Key.{Key}
 use Rattle.zs_sum.specs.Laws.{PointerLaw}
 use Rattle.zs_record.specs.declared.fault.RecordFault.TheVariants as faults
 use Rattle.zs_record.specs.declared.sets.SetHead.{SetHead}
-use Rattle.zs_record.specs.declared.sets.StoredSet.{StoredSet}
 use Rattle.zs_record.specs.Reading.{Read, ◌>>=◌}
 use Rattle.zs_record.specs.Numbers.{number_of, number_within, number_bytes, is_outside}
 use Rattle.zs_record.specs.Names.{name_of}
 use Rattle.zs_record.specs.Blocks.{entries_of}
 use Rattle.zs_record.specs.Sets.{is_above, id_above, parent_with, set_head_of, stored_set_of, id_next, sets_of}
 use Rattle.zs_record.specs.ScanSpelling.{flag}
-use Rattle.zs_record.specs.Spelling.{name_bytes, entry_bytes, number_of_parent, set_head_bytes, stored_set_bytes}
+use Rattle.zs_record.specs.Spelling.{entry_bytes, number_of_parent, set_head_bytes, stored_set_bytes}
 use Rattle.zs_record.specs.Laws.{IsPart, IsName, AreEntries}
 use Rattle.zs_record.specs.StoredLaws.{IsSetHead, IsStoredSet, AreSets}
 use Rattle.zs_record.proofs.Parts.{peel, guard_true, wide8, wide32, wide64, number_part, within_part, bind_part, same_part}
@@ -160,8 +157,7 @@ set_head_part last =
     })
     (λ d is.
     let head = flag_again d.head in
-    let parent = parent_back d.parent is.parent in
-    (
+    let parent = parent_back d.parent is.parent in (
       λ i. record { id = d.id; head = head i; owner = d.owner; label = d.label; parent = parent.1 i; creation = d.creation },
       (
         (is.id, is.above),

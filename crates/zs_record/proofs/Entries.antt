@@ -1,16 +1,12 @@
 -- Pointers and entries have one spelling.
-use Rattle.std.proofs.Common.{◌≡◌, ℕ, ◌+◌, ◌^◌, ◌<◌, ◌≤◌, ◌==◌, ◌&&◌, not, nat_lt, Bool, true, false, cond, List, [], ◌∷◌, ◌++◌, length, Option, Some, Result, Ok, Err, refl, sym, ap, subst, ◌∙◌, append_assoc, arith}
-use Rattle.std.proofs.lemmas.Bool.{not-false}
-use Rattle.std.proofs.lemmas.List.{length-append}
+use Rattle.std.proofs.Common.{◌≡◌, ℕ, ◌==◌, ◌&&◌, not, Bool, true, false, cond, List, [], ◌∷◌, ◌++◌, length, Option, Some, Result, Ok, Err, refl, sym, ap, subst, ◌∙◌, append_assoc, arith}
 use Rattle.zs_ids.specs.declared.block.Bp.{Bp}
 use Rattle.zs_ids.specs.declared.block.Place.{Place}
 use Rattle.zs_ids.specs.declared.key.Key.{Key}
 use Rattle.zs_sum.specs.declared.fault.BpFault.{BpFault}
-use Rattle.zs_sum.specs.Laws.{AreBytes, IsPointer, PointerLaw}
+use Rattle.zs_sum.specs.Laws.{IsPointer, PointerLaw}
 use Rattle.zs_sum.specs.Pointer.{bp_bytes, head_bytes, place_bytes, bp_of}
-use Rattle.zs_record.specs.declared.fault.RecordFault.{RecordFault}
 use Rattle.zs_record.specs.declared.fault.RecordFault.TheVariants as faults
-use Rattle.zs_record.specs.Reading.{Read, ◌>>=◌}
 use Rattle.zs_record.specs.Numbers.{bytes_of}
 use Rattle.zs_record.specs.Blocks.{key_of, is_key, is_behind, key_behind, one_place, pointer_of, pointer_at, level_at, is_size_at, entry_of, entries_of}
 use Rattle.zs_record.specs.Laws.{IsPart, IsWideKey, IsPointerAt, IsEntry, AreEntries, PartsLaw}

@@ -1,11 +1,10 @@
 -- Names and keys have one spelling.
-use Rattle.std.proofs.Common.{◌≡◌, ℕ, ◌^◌, ◌<◌, Bool, true, false, cond, List, [], ◌∷◌, ◌++◌, length, Result, Ok, Err, refl, append_assoc}
+use Rattle.std.proofs.Common.{◌≡◌, ℕ, ◌^◌, cond, List, Ok, Err, refl, append_assoc}
 use Rattle.std.specs.Int.{w8, w16, w32}
 use Rattle.zs_ids.specs.declared.dataset.Name.{Name}
-use Rattle.zs_ids.specs.declared.key.Key.{Key}
 use Rattle.zs_record.specs.declared.fault.RecordFault.TheVariants as faults
-use Rattle.zs_record.specs.Reading.{Read, ◌>>=◌}
-use Rattle.zs_record.specs.Numbers.{number_of, number_within, number_bytes, bytes_of, is_outside}
+use Rattle.zs_record.specs.Reading.{◌>>=◌}
+use Rattle.zs_record.specs.Numbers.{number_of, number_within, bytes_of}
 use Rattle.zs_record.specs.Names.{is_name, name_of}
 use Rattle.zs_record.specs.Blocks.{key_of}
 use Rattle.zs_record.specs.Laws.{IsPart, IsName, IsWideKey}

@@ -1,15 +1,15 @@
 -- The head of a record has one spelling.
-use Rattle.std.proofs.Common.{◌≡◌, ℕ, suc, ◌*◌, ◌-◌, ◌^◌, ◌<◌, ◌≤◌, ◌==◌, ◌&&◌, nat_lt, Bool, true, false, cond, List, ◌++◌, length, Result, Ok, Err, refl, sym, ap, subst, ◌∙◌, append_assoc, arith}
+use Rattle.std.proofs.Common.{◌≡◌, ℕ, ◌*◌, ◌-◌, ◌^◌, ◌<◌, ◌≤◌, ◌==◌, nat_lt, true, cond, List, ◌++◌, length, Ok, Err, refl, sym, ap, ◌∙◌, append_assoc, arith}
 use Rattle.std.specs.Int.{w32, w64}
 use Rattle.std.specs.Cmp.Lexicographic.{same_text}
 use Rattle.std.proofs.lemmas.Bool.{eqb-true, and_parts, ltb-true}
 use Rattle.std.proofs.Math.Pow.{pow_mono}
 use lib.Pointwise.{pointwise}
-use Rattle.zs_ids.specs.declared.limits.TheConstants.{MIRRORS, WIDTH, DATASETS, TXG_END}
+use Rattle.zs_ids.specs.declared.limits.TheConstants.{DATASETS, TXG_END}
 use Rattle.zs_record.specs.declared.fault.RecordFault.TheVariants as faults
 use Rattle.zs_record.specs.declared.head.Head.{Head}
 use Rattle.zs_record.specs.declared.mirrors.Mirrors.{Mirrors}
-use Rattle.zs_record.specs.Reading.{Read, ◌>>=◌}
+use Rattle.zs_record.specs.Reading.{Read}
 use Rattle.zs_record.specs.Numbers.{number_of, number_within, number_bytes, bytes_of}
 use Rattle.zs_record.specs.Head.{magic, behind_magic, behind_version, devices_of, leaves_each, is_offline, offline_of, head_of}
 use Rattle.zs_record.specs.Laws.{IsPart}

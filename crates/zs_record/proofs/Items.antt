@@ -1,8 +1,8 @@
 -- Items one after the other have one spelling, where each has.
-use Rattle.std.proofs.Common.{◌≡◌, ℕ, zero, suc, ◌+◌, ◌^◌, ◌<◌, List, [], ◌∷◌, ◌++◌, length, Result, Ok, Err, refl, sym, ap, subst, ◌∙◌, append_assoc, arith}
+use Rattle.std.proofs.Common.{◌≡◌, ℕ, zero, suc, List, [], ◌∷◌, ◌++◌, length, Ok, refl, ap, subst, append_assoc}
 use Rattle.std.specs.List.{flat_map}
 use Rattle.zs_sum.specs.Laws.{AreBytes}
-use Rattle.zs_record.specs.Reading.{Read, ◌>>=◌, items_of}
+use Rattle.zs_record.specs.Reading.{Read, items_of}
 use Rattle.zs_record.specs.Laws.{IsPart, FitAll}
 use Rattle.zs_record.proofs.Parts.{peel, ok_is, joined}
 

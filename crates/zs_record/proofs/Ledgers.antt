@@ -1,11 +1,8 @@
 -- The ledger has one spelling, but for the marks of its entries.
-use Rattle.std.proofs.Common.{◌≡◌, ℕ, zero, suc, ◌-◌, ◌^◌, ◌<◌, ◌≤◌, ◌||◌, nat_lt, Bool, true, false, cond, List, [], ◌∷◌, ◌++◌, length, map, replicate, Result, Ok, Err, refl, sym, ap, subst, ◌∙◌, append_assoc, arith}
+use Rattle.std.proofs.Common.{◌≡◌, ℕ, zero, suc, ◌-◌, ◌^◌, ◌<◌, ◌≤◌, nat_lt, Bool, true, false, cond, List, [], ◌∷◌, ◌++◌, length, map, replicate, Ok, Err, refl, ap, subst, append_assoc, arith}
 use Rattle.std.proofs.lemmas.List.{append-nil}
 use Rattle.std.specs.Int.{w8, w16, w32, w64}
 use Rattle.std.specs.List.{flat_map}
-use Rattle.zs_ids.specs.declared.block.Piece.{Piece}
-use Rattle.zs_ids.specs.declared.block.Place.{Place}
-use Rattle.zs_ids.specs.declared.limits.TheConstants.{MIRRORS}
 use Rattle.zs_ledger.specs.Kept.{has_piece}
 use Rattle.zs_ledger.specs.declared.entry.CopyResult.{CopyResult}
 use Rattle.zs_ledger.specs.declared.entry.CopyResult.TheVariants.{Missing, Good, Rewritten, Bad, Fault, Absent}
@@ -18,7 +15,7 @@ use Rattle.zs_record.specs.Checked.{number_of_copy, copy_with, copy_of, copies_o
 use Rattle.zs_record.specs.Laws.{IsPart, IsFrom, FitAll}
 use Rattle.zs_record.specs.Spelling.{copy_bytes, checked_bytes, ledger_bytes}
 use Rattle.zs_record.specs.StoredLaws.{AreFew, is_there, there_of, IsChecked, with_checked, IsLedger, unmarked}
-use Rattle.zs_record.proofs.Parts.{peel, ok_is, wide8, wide16, wide32, wide64, number_part, within_part, bytes_part, refused_part, bind_part, same_part}
+use Rattle.zs_record.proofs.Parts.{wide8, wide16, wide32, wide64, number_part, within_part, bytes_part, refused_part, bind_part, same_part}
 use Rattle.zs_record.proofs.Items.{AreItems, items_part}
 use Rattle.zs_record.proofs.Pairs.{then_read, made_read, pair_part, made_part, restated, bind_bind, bind_guard, inside, not_outside, only_one}
 
@@ -187,7 +184,7 @@ front_part mirrors last few end =
     (λ f is.
     let pad = only_one 0 f.1.1.0 is.1.1.0.1 in
     let gap = only_one 0 f.1.1.1.1.1.0 is.1.1.1.1.1.0.1 in
-    λ i. (f.0, (f.1.0, (pad i, (f.1.1.1.0, (f.1.1.1.1.0, (gap i, f.1.1.1.1.1.1)))))))) 
+    λ i. (f.0, (f.1.0, (pad i, (f.1.1.1.0, (f.1.1.1.1.0, (gap i, f.1.1.1.1.1.1))))))))
     (front_same mirrors last) (λ e is. refl)
     (λ e is. record {
       bare = is.0;
@@ -254,8 +251,7 @@ checked_part mirrors last few end before =
     (λ x. with_sum x.0 x.1) (λ e. (with_sum e no_sum, e.sum)) (λ x is. told x.0 x.1 is.0.0.bare))
     (checked_same mirrors last before) (λ e is. simp append_assoc)
     (λ e is.
-    let front = is.1.0.0 in
-    (
+    let front = is.1.0.0 in (
       record {
         vdev = front.vdev;
         copies = front.copies;

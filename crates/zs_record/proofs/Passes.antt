@@ -1,16 +1,15 @@
 -- Where a walk is, and its pass, have one spelling.
-use Rattle.std.proofs.Common.{◌≡◌, ℕ, zero, suc, ◌-◌, ◌^◌, ◌<◌, ◌≤◌, ◌==◌, ◌&&◌, nat_le, Bool, true, false, cond, List, [], ◌∷◌, ◌++◌, length, replicate, Result, Ok, Err, refl, sym, ap, subst, ◌∙◌, append_assoc, arith, inl, inr}
+use Rattle.std.proofs.Common.{◌≡◌, ℕ, zero, suc, ◌-◌, ◌^◌, ◌<◌, ◌≤◌, ◌==◌, ◌&&◌, Bool, true, false, cond, List, [], ◌∷◌, ◌++◌, length, replicate, Ok, Err, refl, sym, ap, subst, ◌∙◌, append_assoc, arith, inl, inr}
 use Rattle.std.specs.Int.{w8, w32, w64}
 use Rattle.std.specs.List.{list_all}
-use Rattle.std.proofs.lemmas.Bool.{eqb-true, eq-eqb, ne_eqb, cases_eq, and_parts, leb-true, le-leb}
-use Rattle.zs_ids.specs.declared.dataset.DsId.{DsId}
+use Rattle.std.proofs.lemmas.Bool.{eqb-true, ne_eqb, cases_eq, and_parts, leb-true, le-leb}
 use Rattle.zs_ids.specs.declared.key.Key.{Key}
 use Rattle.zs_ids.specs.Key.{root_key}
 use Rattle.zs_phys.specs.declared.phys.At.{At}
 use Rattle.zs_phys.specs.declared.phys.At.TheVariants as ats
 use Rattle.zs_record.specs.declared.fault.RecordFault.TheVariants as faults
 use Rattle.zs_record.specs.declared.scan.Pass.{Pass}
-use Rattle.zs_record.specs.Reading.{Read, ◌>>=◌}
+use Rattle.zs_record.specs.Reading.{Read}
 use Rattle.zs_record.specs.Numbers.{number_within, number_bytes, is_outside, bytes_of, zeros_of}
 use Rattle.zs_record.specs.Blocks.{key_of}
 use Rattle.zs_record.specs.Laws.{IsPart, IsWideKey}
@@ -175,11 +174,10 @@ place_back scanning again ats.Nowhere is =
     ((omega arith, rw is (not_outside 0 (if_used scanning 2) 0 (omega arith) (omega arith))), ((omega arith, refl), (wide_root, refl)))
 place_back scanning again ats.Destroyed is =
     ((omega arith, rw (is.0, is.1) refl), ((omega arith, refl), (wide_root, refl)))
-place_back scanning again (ats.Dataset d k) is =
-    (
-      (omega arith, rw is.0 (not_outside (if_used again 2) 2 2 (upto_two again) (omega arith))),
-      ((is.1, not_outside 0 (2 ^ 32 - 1) d.0 (omega arith) (omega (arith, is.1))), (is.2, le-leb k.depth 4 is.3)),
-    )
+place_back scanning again (ats.Dataset d k) is = (
+  (omega arith, rw is.0 (not_outside (if_used again 2) 2 2 (upto_two again) (omega arith))),
+  ((is.1, not_outside 0 (2 ^ 32 - 1) d.0 (omega arith) (omega (arith, is.1))), (is.2, le-leb k.depth 4 is.3)),
+)
 
 most_same : (at : At) → used_most (number_of_at at) (2 ^ 64 - 1) ≡ most_at at (2 ^ 64 - 1)
 most_same ats.Nowhere = refl
@@ -227,8 +225,7 @@ pass_part scanning again =
     })
     (λ p is.
     let at = at_again p.at in
-    let place = place_back scanning again p.at is.place in
-    (
+    let place = place_back scanning again p.at is.place in (
       λ i. record { at = at i; curmin = p.curmin; curmax = p.curmax },
       (place.0, (place.1.0, (place.1.1, (most_low p.at p.curmin is.curmin, most_low p.at p.curmax is.curmax)))),
     ))

@@ -1,13 +1,11 @@
 -- The queue and the devices' sets have one spelling.
-use Rattle.std.proofs.Common.{◌≡◌, ℕ, suc, ◌+◌, ◌-◌, ◌^◌, ◌<◌, ◌≤◌, Bool, true, false, List, [], ◌∷◌, ◌++◌, All, length, Result, Ok, Err, refl, sym, ap, subst, ◌∙◌, append_assoc, arith}
+use Rattle.std.proofs.Common.{◌≡◌, ℕ, suc, ◌+◌, ◌-◌, ◌^◌, ◌<◌, ◌≤◌, Bool, true, false, List, [], ◌∷◌, ◌++◌, All, length, refl, arith}
 use Rattle.std.specs.Int.{w32, w64}
 use Rattle.std.specs.List.{flat_map}
 use Rattle.std.proofs.lemmas.List.Elements.{All-nil, All-cons}
-use Rattle.zs_ids.specs.declared.dataset.DsId.{DsId}
 use Rattle.zs_phys.specs.declared.todos.Todo.{Todo}
 use Rattle.zs_ranges.specs.declared.set.Interval.{Interval}
 use Rattle.zs_record.specs.declared.fault.RecordFault.TheVariants as faults
-use Rattle.zs_record.specs.Reading.{Read, ◌>>=◌}
 use Rattle.zs_record.specs.Numbers.{number_of, number_within, number_bytes, is_outside}
 use Rattle.zs_record.specs.Laws.{IsPart, FitAll, IsSet}
 use Rattle.zs_record.specs.Logs.{set_of, logs_of}

@@ -1,10 +1,10 @@
 -- A record has one spelling, but for the marks of its entries.
-use Rattle.std.proofs.Common.{◌≡◌, ℕ, zero, suc, ◌-◌, ◌^◌, ◌<◌, ◌≤◌, ◌==◌, Bool, true, false, cond, List, [], ◌∷◌, ◌++◌, All, length, map, flat_map, Option, None, Result, Ok, Err, refl, sym, ap, subst, ◌∙◌, append_assoc, arith}
+use Rattle.std.proofs.Common.{◌≡◌, ℕ, suc, ◌-◌, ◌^◌, ◌<◌, ◌==◌, true, cond, List, [], ◌∷◌, ◌++◌, All, length, map, Option, None, Result, Ok, Err, refl, sym, ap, subst, ◌∙◌, append_assoc, arith}
 use Rattle.std.proofs.lemmas.Bool.{eqb-true}
 use Rattle.std.proofs.lemmas.List.{append-nil, length-map}
 use Rattle.std.proofs.lemmas.List.Folds.{flat_map-map}
 use Rattle.std.proofs.lemmas.List.Elements.{All-nil, All-cons}
-use Rattle.zs_ids.specs.declared.limits.TheConstants.{LOG_SPANS, TXG_END}
+use Rattle.zs_ids.specs.declared.limits.TheConstants.{LOG_SPANS}
 use Rattle.zs_ids.specs.declared.block.Piece.{Piece}
 use Rattle.zs_ids.specs.declared.dataset.DsId.{DsId}
 use Rattle.zs_ledger.specs.Kept.{has_piece}
@@ -32,7 +32,7 @@ use Rattle.zs_record.specs.Laws.{IsPart, FitAll, IsSet}
 use Rattle.zs_record.specs.Spelling.{checked_bytes, ledger_bytes}
 use Rattle.zs_record.specs.Stored.{Parts, is_scanning, most_dirty, stored_of}
 use Rattle.zs_record.specs.StoredSpelling.{stored_bytes, HaveCounts}
-use Rattle.zs_record.specs.StoredLaws.{AreFew, IsStoredSet, IsStored, IsChecked, with_checked, IsLedger, unmarked, forgotten, StoredLaw, StoredPartsLaw}
+use Rattle.zs_record.specs.StoredLaws.{AreFew, IsStoredSet, IsStored, IsChecked, with_checked, unmarked, forgotten, StoredLaw, StoredPartsLaw}
 use Rattle.zs_record.proofs.Parts.{guard_true, bind_ok}
 use Rattle.zs_record.proofs.Pairs.{then_read, made_read, pair_part, made_part, restated, bind_bind}
 use Rattle.zs_record.proofs.Heads.{head_part}
@@ -93,8 +93,7 @@ whole_part law mirrors few =
     parts_with fields_of (λ f is. refl))
     (λ bytes. refl) (λ p is. simp append_assoc)
     (λ p is.
-    let checked = is.1.1.1.1.1.1.1.1 in
-    (
+    let checked = is.1.1.1.1.1.1.1.1 in (
       record {
         head = is.1.0;
         sets = is.1.1.0;
@@ -131,20 +130,19 @@ has_unmarked (e ∷ before) p = rw (has_unmarked before p) refl
 all_unmarked : (mirrors : Mirrors) (last : ℕ) (before entries : List Entry) → FitAll (IsChecked mirrors last) with_checked before entries
     → FitAll (IsChecked mirrors last) with_checked (map unmarked before) (map unmarked entries)
 all_unmarked mirrors last before [] fit = tt
-all_unmarked mirrors last before (e ∷ entries) fit =
-    (
-      record {
-        vdev = fit.0.vdev;
-        copies = fit.0.copies;
-        sectors = fit.0.sectors;
-        sector = fit.0.sector;
-        birth = fit.0.birth;
-        other = has_unmarked before e.piece ∙ fit.0.other;
-        sum = fit.0.sum;
-      },
-      subst (λ (state : List Entry). FitAll (IsChecked mirrors last) with_checked state (map unmarked entries)) (map_push before e)
+all_unmarked mirrors last before (e ∷ entries) fit = (
+  record {
+    vdev = fit.0.vdev;
+    copies = fit.0.copies;
+    sectors = fit.0.sectors;
+    sector = fit.0.sector;
+    birth = fit.0.birth;
+    other = has_unmarked before e.piece ∙ fit.0.other;
+    sum = fit.0.sum;
+  },
+  subst (λ (state : List Entry). FitAll (IsChecked mirrors last) with_checked state (map unmarked entries)) (map_push before e)
       (all_unmarked mirrors last (with_checked before e) entries fit.1),
-    )
+)
 
 unmarked_twice : (entries : List Entry) → map unmarked (map unmarked entries) ≡ map unmarked entries
 unmarked_twice [] = refl

@@ -1,7 +1,7 @@
 -- What every scan has has one spelling.
-use Rattle.std.proofs.Common.{◌≡◌, ◌≢◌, ℕ, ◌-◌, ◌^◌, ◌<◌, ◌≤◌, ◌==◌, ◌&&◌, bit_and, nat_lt, Bool, true, false, cond, List, ◌++◌, Result, Ok, Err, refl, sym, ap, subst, ◌∙◌, append_assoc, arith, inl, inr}
+use Rattle.std.proofs.Common.{◌≡◌, ℕ, ◌-◌, ◌^◌, ◌<◌, ◌≤◌, ◌==◌, ◌&&◌, bit_and, nat_lt, Bool, true, false, List, refl, ap, subst, append_assoc, arith, inl, inr}
 use Rattle.std.specs.Int.{w8, w32, w64}
-use Rattle.std.proofs.lemmas.Bool.{eqb-true, eqb-false, ne_eqb, cases_eq, and_parts}
+use Rattle.std.proofs.lemmas.Bool.{ne_eqb, cases_eq, and_parts}
 use Rattle.zs_phys.specs.declared.phys.Status.{Status}
 use Rattle.zs_phys.specs.declared.phys.Status.TheVariants.{Never, Scanning, Finished, Canceled}
 use Rattle.zs_phys.specs.declared.scope.Kind.{Kind}
@@ -9,7 +9,7 @@ use Rattle.zs_phys.specs.declared.scope.Kind.TheVariants.{Idle, Scrub, Resilver}
 use Rattle.zs_record.specs.declared.fault.RecordFault.TheVariants as faults
 use Rattle.zs_record.specs.declared.mirrors.Mirrors.{Mirrors}
 use Rattle.zs_record.specs.declared.scan.Running.{Running}
-use Rattle.zs_record.specs.Reading.{Read, ◌>>=◌}
+use Rattle.zs_record.specs.Reading.{Read}
 use Rattle.zs_record.specs.Numbers.{number_of, number_within, number_bytes, is_outside}
 use Rattle.zs_record.specs.Head.{devices_of}
 use Rattle.zs_record.specs.Laws.{IsPart}
@@ -226,8 +226,7 @@ back mirrors offline few r is =
     let range = status_back r.kind r.status is.status in
     let paused = flag_within (number_of_kind r.kind == 1 && number_of_status r.status == 1) r.paused (λ e. paused_back r.kind r.status (is.paused e)) in
     let again = flag_within (number_of_status r.status == 1) r.again (λ e. ap (λ (s : Status). number_of_status s == 1) (is.again e)) in
-    let below = mask_below mirrors r.away few (and_parts (nat_lt r.away (2 ^ devices_of mirrors)) (bit_and offline r.away == offline) is.away).0 in
-    (
+    let below = mask_below mirrors r.away few (and_parts (nat_lt r.away (2 ^ devices_of mirrors)) (bit_and offline r.away == offline) is.away).0 in (
       (omega (arith, kind), not_outside 0 2 (number_of_kind r.kind) (omega arith) kind),
       (
         (omega (arith, status), not_outside _ _ (number_of_status r.status) range.0 range.1),
@@ -255,8 +254,7 @@ running_part mirrors offline few =
     let kind = kind_again r.kind in
     let status = status_again r.status in
     let paused = flag_again r.paused in
-    let again = flag_again r.again in
-    (
+    let again = flag_again r.again in (
       λ i. record { kind = kind i; status = status i; paused = paused i; again = again i; min = r.min; max = r.max; away = r.away },
       back mirrors offline few r is,
     ))

@@ -1,9 +1,8 @@
 -- Sets of transaction groups have one spelling.
-use Rattle.std.proofs.Common.{◌≡◌, ℕ, ◌^◌, ◌<◌, ◌≤◌, nat_lt, false, List, ◌++◌, length, refl, append_assoc, arith}
+use Rattle.std.proofs.Common.{◌≡◌, ℕ, ◌^◌, ◌<◌, ◌≤◌, nat_lt, false, List, length, refl, arith}
 use Rattle.std.proofs.lemmas.Bool.{ltb-false, le-ltb}
 use Rattle.std.specs.Int.{w32, w64}
 use Rattle.std.specs.List.{flat_map}
-use Rattle.zs_ranges.specs.declared.set.Interval.{Interval}
 use Rattle.zs_record.specs.declared.fault.RecordFault.TheVariants as faults
 use Rattle.zs_record.specs.Numbers.{number_within, number_bytes, is_outside}
 use Rattle.zs_record.specs.Logs.{txg_from, interval_of, after, intervals_of, set_of}

@@ -1,7 +1,5 @@
 -- Datasets that are read one after the other, with a set of their ids.
-use Rattle.std.proofs.Common.{◌≡◌, ◌==◌, ◌||◌, ℕ, ◌-◌, ◌+◌, ◌≤◌, ◌<◌, Bool, true, false, cond, List, [], ◌∷◌, ◌++◌, Result, Ok, Err, refl, sym, ap, ◌∙◌, arith}
-use Rattle.std.specs.List.{list_any}
-use Rattle.std.proofs.lemmas.Grind.{common_steps}
+use Rattle.std.proofs.Common.{◌≡◌, ◌==◌, ◌||◌, ℕ, ◌-◌, ◌+◌, ◌≤◌, ◌<◌, Bool, true, false, cond, List, [], ◌∷◌, ◌++◌, Ok, Err, refl, sym, ap, ◌∙◌, arith}
 use Rattle.zs_phys.specs.declared.todos.Todo.{Todo}
 use Rattle.zs_record.specs.declared.fault.RecordFault.{RecordFault}
 use Rattle.zs_record.specs.declared.fault.RecordFault.TheVariants as faults

@@ -1,7 +1,6 @@
 -- The entries of the ledger: what a scan has checked.
 use Rattle.std.specs.Prelude.{ℕ, zero, suc, ◌-◌, ◌^◌, nat_lt, Bool, List, [], ◌∷◌, ◌++◌, Ok, Err, replicate, if◌then◌else◌}
 use Rattle.std.specs.Int.{w8, w16, w32, w64}
-use Rattle.zs_ids.specs.declared.block.Piece.{Piece}
 use Rattle.zs_ledger.specs.declared.entry.CopyResult.{CopyResult}
 use Rattle.zs_ledger.specs.declared.entry.CopyResult.TheVariants.{Missing, Good, Rewritten, Bad, Fault, Absent}
 use Rattle.zs_ledger.specs.declared.entry.Entry.{Entry}

@@ -1,5 +1,5 @@
 -- A record, all of its bytes.
-use Rattle.std.specs.Prelude.{ℕ, ◌==◌, Bool, true, false, List, Option, None, length, Result, Ok, Err, if◌then◌else◌}
+use Rattle.std.specs.Prelude.{ℕ, ◌==◌, Bool, true, false, List, None, length, Result, Ok, Err, if◌then◌else◌}
 use Rattle.zs_ids.specs.declared.limits.TheConstants.{LOG_SPANS}
 use Rattle.zs_ledger.specs.declared.entry.Entry.{Entry}
 use Rattle.zs_phys.specs.declared.phys.Status.{Status}

@@ -2,9 +2,7 @@
 use Rattle.std.specs.Prelude.{◌<◌, ◌^◌, ℕ, List, ◌++◌, length, flat_map, All}
 use Rattle.std.specs.Int.{w32, w64}
 use Rattle.zs_phys.specs.declared.todos.Todo.{Todo}
-use Rattle.zs_ranges.specs.declared.set.Interval.{Interval}
 use Rattle.zs_record.specs.declared.mirrors.Mirrors.{Mirrors}
-use Rattle.zs_record.specs.declared.sets.StoredSet.{StoredSet}
 use Rattle.zs_record.specs.Numbers.{number_bytes}
 use Rattle.zs_record.specs.ScanSpelling.{running_bytes, pass_bytes}
 use Rattle.zs_record.specs.Spelling.{head_bytes, stored_set_bytes, set_bytes, ledger_bytes}

@@ -1,4 +1,4 @@
-use Rattle.std.proofs.Common.{◌≡◌, ◌++◌, ◌∷◌, [], ◌+◌, ℕ, Some, None, ap, ◌∙◌}
+use Rattle.std.proofs.Common.{Some, None}
 use Rattle.std.proofs.lemmas.Result.{err_from_is_err_and}
 use Rattle.zs_record.specs.Blocks.{entry_of, entries_of}
 use Rattle.zs_record.proofs.Loops.{goes_on, ends, is_done}

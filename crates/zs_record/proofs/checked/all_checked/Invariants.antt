@@ -1,5 +1,4 @@
-use Rattle.std.proofs.Common.{◌≡◌, ◌-◌, ◌+◌, ℕ, [], None}
-use Rattle.zs_record.specs.Reading.{items_of}
+use Rattle.std.proofs.Common.{◌≡◌, ◌-◌, []}
 use Rattle.zs_record.specs.Checked.{all_checked}
 use Rattle.zs_record.proofs.Loops.{with_front}
 use Rattle.zs_record.proofs.checked.all_checked.Given as goal

@@ -1,4 +1,3 @@
-use Rattle.std.proofs.Common.{◌≡◌, ◌++◌, ◌∷◌, [], ◌+◌, ℕ, Some, None, ap, ◌∙◌}
 use Rattle.std.proofs.lemmas.Result.{err_from_is_err_and}
 use Rattle.zs_record.specs.Logs.{interval_of, intervals_of, after}
 use Rattle.zs_record.proofs.Loops.{goes_on, ends, is_done}

@@ -1,5 +1,4 @@
-use Rattle.std.proofs.Common.{◌≡◌, ◌-◌, ◌+◌, ℕ, [], None}
-use Rattle.zs_record.specs.Reading.{items_of}
+use Rattle.std.proofs.Common.{◌≡◌, ◌-◌}
 use Rattle.zs_record.specs.Logs.{intervals_of}
 use Rattle.zs_record.proofs.Loops.{with_front}
 use Rattle.zs_record.proofs.logs.intervals_of.Given as goal

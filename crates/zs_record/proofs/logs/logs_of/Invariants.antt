@@ -1,4 +1,4 @@
-use Rattle.std.proofs.Common.{◌≡◌, ◌-◌, ◌+◌, ℕ, [], None}
+use Rattle.std.proofs.Common.{◌≡◌, ◌-◌, ◌+◌, ℕ}
 use Rattle.zs_record.specs.Reading.{items_of}
 use Rattle.zs_record.specs.Logs.{logs_of, set_of}
 use Rattle.zs_record.proofs.Loops.{with_front}

@@ -1,4 +1,4 @@
-use Rattle.std.proofs.Common.{◌≡◌, ◌-◌, ◌^◌}
+use Rattle.std.proofs.Common.{◌≡◌, ◌-◌}
 use Rattle.zs_record.specs.Head.{leaves_each}
 use Rattle.zs_record.proofs.mirrors.leaves_each.Given as goal
 

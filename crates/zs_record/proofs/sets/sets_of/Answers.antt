@@ -1,4 +1,4 @@
-use Rattle.std.proofs.Common.{◌≡◌, ◌++◌, ◌∷◌, [], ◌+◌, ℕ, Some, None, ap, ◌∙◌}
+use Rattle.std.proofs.Common.{None}
 use Rattle.std.proofs.lemmas.Result.{err_from_is_err_and}
 use Rattle.zs_record.specs.Sets.{stored_set_of, id_next, sets_of}
 use Rattle.zs_record.proofs.Loops.{goes_on, ends_or_wants, is_done}
