@@ -47,4 +47,6 @@ pub use sets::{SetHead, StoredSet};
 pub use stored::{Stored, stored_of};
 
 #[cfg(test)]
+mod record_tests;
+#[cfg(test)]
 mod tests;
