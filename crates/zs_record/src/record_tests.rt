@@ -9,13 +9,16 @@ use zs_phys::{At, Kind, Status};
 /// One mirror of two devices.
 const MIRRORS: Mirrors = Mirrors { count: 1, width: 2 };
 
-/// The first byte of the fields of which the tests speak.
+/// Where the second dataset begins.
 const SECOND_SET: usize = 84;
 
+/// Where its first entry begins.
 const FIRST_ENTRY: usize = 132;
 
+/// Where the place of the scan stands.
 const PASS: usize = 340;
 
+/// Where the first of the checked pieces begins.
 const FIRST_PIECE: usize = 416;
 
 /// What is read when each byte in turn is 255: a letter for each fault, a dot for a record.
