@@ -1,4 +1,4 @@
-use Rattle.std.proofs.Common.{◌∙◌, length, sym, ap}
+use Rattle.std.proofs.Common.{◌∙◌}
 use Rattle.zs_label.proofs.TestSets.{two_lanes}
 use Rattle.zs_label.proofs.tests.best.Goals as goal
 
