@@ -127,7 +127,8 @@ struct HeadAndClone {
 impl Datasets for HeadAndClone {
     ghost use Rattle.zs_walk.specs.Examples.{head_and_clone};
 
-    ghost datasets = { λ g. head_and_clone (⟦<Flat as Blocks>⟧.entries g.head) (⟦<Flat as Blocks>⟧.entries g.snapshot) (⟦<Flat as Blocks>⟧.entries g.clone) };
+    ghost datasets = { λ g. head_and_clone (⟦<Flat as Blocks>⟧.entries g.head) (⟦<Flat as Blocks>⟧.entries g.snapshot)
+        (⟦<Flat as Blocks>⟧.entries g.clone) };
 
     fn next_block(&self, id: DsId, from: Key, above: u64) -> Option<(Key, Bp)> {
         match id.0 {
