@@ -5,8 +5,6 @@ ghost use Rattle.zs_ids.specs.Graph.{Has};
 ghost use Rattle.zs_ids.specs.GraphTree.{start_of};
 ghost use Rattle.zs_ids.specs.declared.dataset.DsId.{DsId};
 ghost use Rattle.std.specs.List.{list_any, list_all};
-ghost use Rattle.zs_ranges.specs.Set.{has_txg};
-ghost use Rattle.zs_phys.specs.Scope.{in_scope, is_wanted, logs_of};
 ghost use Rattle.zs_phys.specs.Ahead.{Ahead, Covers, IsLater, claims, ids_at, pending};
 ghost use Rattle.zs_plain.specs.Tests.{has_piece};
 ghost use Rattle.zs_plain.specs.AheadTests.{is_again, is_ahead, is_passing, is_queued, is_covered_entry, is_covered_dataset, is_covering};
@@ -16,39 +14,8 @@ use crate::graph::has_piece;
 use crate::tree::{below, has_id, start_of};
 use std::alloc::{AllocError, Global};
 use zs_ids::{Bp, DsId, Key, Piece};
-use zs_phys::{At, Kind, Phys, Scope, Status, Todo};
-
-/// Whether the scan examines the piece.
-pub fn in_scope(scope: &Scope, piece: &Piece) -> bool
-    ensures { result ≡ in_scope scope.now piece.now }
-{
-    scope.min < piece.birth && piece.birth < scope.max && is_wanted(scope, piece)
-}
-
-/// Whether the kind of scan examines the piece.
-fn is_wanted(scope: &Scope, piece: &Piece) -> bool
-    ensures { result ≡ is_wanted scope.now.kind scope.now piece.now }
-{
-    match scope.kind {
-        Kind::Idle => false,
-        Kind::Scrub => true,
-        Kind::Resilver => is_missed(scope, piece.place.vdev, piece.birth),
-    }
-}
-
-/// Whether a device of the mirror may lack its copies of a transaction group.
-fn is_missed(scope: &Scope, vdev: u8, birth: u64) -> bool
-    ensures { result ≡ list_any (λ log. has_txg log birth) (logs_of scope.now vdev) }
-{
-    let width = usize::from(scope.width);
-    scope
-        .dirty0
-        .as_slice()
-        .iter()
-        .skip(usize::from(vdev) * width)
-        .take(width)
-        .any(|log| log.has(birth))
-}
+use zs_phys::{At, Phys, Scope, Status, Todo};
+use zs_want::in_scope;
 
 /// The dataset that the state is at, if it is at one.
 fn ids_at(alloc: Global, at: At) -> Result<Vec<DsId>, AllocError>

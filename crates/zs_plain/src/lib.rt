@@ -1,8 +1,9 @@
 //! A plain program beside the definitions: each public function decides, or computes, one of the definitions of
 //! datasets, scan states, coverage and turns, on a short list of datasets.
 //!
-//! Layer: above the definitions (`zs_ids`, `zs_phys`), with lemmas of `zs_cover`. Nothing stands on it: it is for
-//! examples only, its loops are plain, and some of them nested. The pool has its own data and calls none of this.
+//! Layer: above the definitions (`zs_ids`, `zs_phys`) and the rule of `zs_want`, with lemmas of `zs_cover`. Nothing stands
+//! on it: it is for examples only, its loops are plain, and some of them nested. The pool has its own data and calls none of
+//! this.
 //! Model: a `PlainDataset` is seen as the dataset of the definitions, and a slice of them as a graph.
 //! Promise: a test answers true exactly where the definition holds, and what is computed is what the definition has,
 //! all of it and nothing else. The tests run worked examples through it, with events between the turns of a

@@ -15,7 +15,6 @@ ghost use Rattle.zs_phys.specs.Turn.{Comes, Turn, advanced, behind, entry, left,
 ghost use Rattle.zs_plain.specs.Tests.{has_piece};
 ghost use Rattle.zs_plain.specs.TurnTests.{IsTooLarge, block_step, depth_at, is_walking, next_step, queue_step};
 
-use crate::ahead::in_scope;
 use crate::dataset::PlainDataset;
 use crate::graph::has_piece;
 use crate::tree::{children_of, created, end_of_pass};
@@ -23,6 +22,7 @@ use std::alloc::{AllocError, Global};
 use zs_ids::limits::DATASETS;
 use zs_ids::{Bp, DsId, Key, Piece};
 use zs_phys::{At, Phys, Scope, Status, Step, Todo, Todos};
+use zs_want::in_scope;
 
 /// A turn that was made.
 #[derive(Debug, Drop)]

@@ -1,10 +1,10 @@
 //! What a resilver has in scope.
 
-use crate::ahead::in_scope;
 use std::alloc::{AllocError, Global};
 use zs_ids::{Piece, Place, Seq};
 use zs_phys::{Kind, Scope};
 use zs_ranges::TxgSet;
+use zs_want::in_scope;
 
 /// A log that has one transaction group.
 fn log(alloc: Global, txg: u64) -> Result<TxgSet, AllocError> {
