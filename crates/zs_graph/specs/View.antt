@@ -1,5 +1,5 @@
 -- What contracts see of the datasets of a pool, and what is true of them.
-use Rattle.std.specs.Prelude.{◌==◌, ◌&&◌, Bool, not, ◌≡◌, ◌≤◌, ◌<◌, ◌+◌, ◌++◌, ◌∷◌, [], ℕ, List, Option, Some, None, length, slice_get}
+use Rattle.std.specs.Prelude.{◌==◌, ◌&&◌, Bool, false, not, ◌≡◌, ◌≤◌, ◌<◌, ◌+◌, ◌++◌, ◌∷◌, [], ℕ, List, Option, Some, None, length, slice_get}
 use Rattle.zs_ids.specs.declared.key.Key.{Key}
 use Rattle.zs_ids.specs.declared.block.Bp.{Bp}
 use Rattle.zs_ids.specs.declared.dataset.DsId.{DsId}
@@ -39,6 +39,11 @@ IsIndexOf g id (Some i) = (i < length g) × (slice_get g i ≡ dataset_at g id)
 abbrev pub parent_id : Option Dataset → Option DsId
 parent_id None = None
 parent_id (Some d) = d.parent
+
+-- there is a dataset, and it is a head
+abbrev pub is_head : Option Dataset → Bool
+is_head None = false
+is_head (Some d) = d.head
 
 -- with a dataset behind the others, and the next id
 abbrev pub with_dataset : GraphView → Dataset → GraphView

@@ -1,10 +1,11 @@
-//! What is asked of the datasets. Nothing here takes memory.
+//! What is asked of the datasets. But for the list of their ids, nothing here takes memory.
 
-ghost use Rattle.std.specs.Prelude.{◌≡◌, find, filter, map, option_map, slice_get};
+ghost use Rattle.std.specs.Prelude.{◌≡◌, IfOk, find, filter, map, option_map, slice_get};
 ghost use Rattle.zs_ids.specs.GraphTree.{dataset_at, dataset_named, children_of, is_above, same_name, stands_on, taken_at};
-ghost use Rattle.zs_graph.specs.View.{dataset_of, has_name, parent_id};
+ghost use Rattle.zs_graph.specs.View.{dataset_of, has_name, is_head, parent_id};
 
 use crate::graph::{Graph, Set};
+use std::alloc::{AllocError, Global};
 use zs_ids::{Blocks, DsId, DsName, Name};
 
 /// Whether the names are the same.
@@ -55,6 +56,13 @@ fn first_id<T>(sets: &[Set<T>]) -> Option<DsId>
     ensures { result ≡ option_map (λ s. s.id) (slice_get sets.now 0) }
 {
     sets.first().map(|set| set.id)
+}
+
+/// The ids of datasets, in order.
+fn ids_of<T>(alloc: Global, sets: &[Set<T>]) -> Result<Vec<DsId>, AllocError>
+    ensures { IfOk result (λ ids. ids.items ≡ map (λ s. s.id) sets.now) }
+{
+    sets.iter().map(|set| set.id).collect(alloc)
 }
 
 impl<T: Blocks> Graph<T> {
@@ -121,6 +129,24 @@ impl<T: Blocks> Graph<T> {
             None => None,
             Some(set) => Some(&set.map),
         }
+    }
+
+    /// Whether there is such a dataset and it is a head.
+    pub fn is_head(&self, id: DsId) -> bool
+        ensures { result ≡ is_head (dataset_at self.now.sets id) }
+    {
+        match self.set(id) {
+            None => false,
+            Some(set) => set.head,
+        }
+    }
+
+    /// The ids of the datasets, in order.
+    pub fn ids(&self) -> Result<Vec<DsId>, AllocError>
+        ensures { IfOk result (λ ids. ids.items ≡ map (λ d. d.id) self.now.sets) }
+    {
+        let ids = ids_of(self.alloc, &self.sets)?;
+        Ok(ids)
     }
 
     /// The id that the next dataset gets.

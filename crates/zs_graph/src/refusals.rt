@@ -107,7 +107,7 @@ impl<T: Blocks> Graph<T> {
     }
 
     /// The transaction group in which a dataset was created; 0 for a head, and where there is none.
-    fn created(&self, id: DsId) -> u64
+    pub fn created(&self, id: DsId) -> u64
         ensures { result ≡ created (dataset_at self.now.sets id) }
     {
         match self.set(id) {
