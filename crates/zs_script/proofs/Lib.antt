@@ -1,3 +1,4 @@
 pub mod ScriptLemmas
 pub mod RangeLemmas
 pub mod NumberLemmas
+pub mod VerbLemmas

@@ -7,12 +7,13 @@ use Rattle.std.specs.List.{list_all, AllByRecursion}
 use Rattle.std.specs.Option.{option_to_list}
 use Rattle.std.specs.Int.{is_power_of_two}
 use Rattle.zs_ids.specs.declared.dataset.DsName.{DsName}
+use Rattle.zs_ids.specs.declared.dataset.Name.{Name}
 use Rattle.zs_ids.specs.declared.limits.TheConstants.{SCRIPT_BYTES}
 use Rattle.zs_script.specs.Faults.{◌>>=◌}
 use Rattle.zs_script.specs.Verbs.{verb_of}
 use Rattle.zs_script.specs.Fields.{digits_from, number_of, size_of, blocks_of, name_of, ds_of}
-use Rattle.zs_script.specs.Rows.{any_number, object_of, levels_of, leaf_of, turns_of, vdev_of, pieces_of, dev_of, sector_of, sectors_of, pool_with, pool_of, fs_of, make_with, make_of, write_with, write_of, read_of, walk_of, issue_of, hold_of, rot_of, alone_of, command_of}
-use Rattle.zs_script.specs.Script.{TextLine, is_skipped, is_text_byte, words_of, is_allowed, with_command, with_line, command_at, command_in, at_line, line_with, line_of, lines_from, some_line, nothing_before, lines_of, parsed_script}
+use Rattle.zs_script.specs.Rows.{any_number, object_of, levels_of, leaf_of, turns_of, vdev_of, pieces_of, dev_of, sector_of, sectors_of, pool_with, pool_of, fs_of, snap_of, clone_of, destroy_of, swap_of, make_with, make_of, write_with, write_of, read_of, walk_of, issue_of, hold_of, rot_of, alone_of, command_of}
+use Rattle.zs_script.specs.Script.{TextLine, is_skipped, is_text_byte, words_of, is_allowed, with_line, command_at, command_in, at_line, line_with, line_of, lines_from, some_line, lines_of, parsed_script}
 use Rattle.zs_script.specs.Lines.{IsPool, IsMake, IsRecord, IsWalk, IsBatch, IsRot, IsFirst, IsLater, IsScript}
 use Rattle.zs_script.specs.declared.command.Command.{Command}
 use Rattle.zs_script.specs.declared.command.Command.TheVariants as commands
@@ -22,7 +23,6 @@ use Rattle.zs_script.specs.declared.command.Why.{Why}
 use Rattle.zs_script.specs.declared.command.Why.TheVariants as why
 use Rattle.zs_script.specs.declared.verb.Verb.{Verb}
 use Rattle.zs_script.specs.declared.verb.Verb.TheVariants as verbs
-use Rattle.zs_script.specs.declared.script.Before.{Before}
 
 -- what follows a reading that succeeds is of what it read
 pub bind_ok : {A B E : Type 0} (r : Result A E) (f : A → Result B E) (y : B) → (r >>= f) ≡ Ok y → (x : A) × (r ≡ Ok x) × (f x ≡ Ok y)
@@ -193,6 +193,58 @@ fs_in command (_ ∷ name ∷ []) h =
     subst IsLater (ok_same (commands.Fs n.0) command n.2) fit
 fs_in command (a ∷ b ∷ c ∷ rest) h = cc
 
+snap_in : (command : Command) (words : List (List ℕ)) → snap_of words ≡ Ok command → IsLater command
+unfolding snap_of
+snap_in command [] h = cc
+snap_in command (a ∷ []) h = cc
+snap_in command (a ∷ b ∷ []) h = cc
+snap_in command (_ ∷ head ∷ label ∷ []) h =
+    let kl : Name → Name → Result Command Why = λ n l. Ok (commands.Snap n l) in
+    let kn : Name → Result Command Why = λ n. name_of label >>= kl n in
+    let n = bind_ok (name_of head) kn command h in
+    let l = bind_ok (name_of label) (kl n.0) command n.2 in
+    let fit : IsLater (commands.Snap n.0 l.0) = tt in
+    subst IsLater (ok_same (commands.Snap n.0 l.0) command l.2) fit
+snap_in command (a ∷ b ∷ c ∷ d ∷ rest) h = cc
+
+clone_in : (command : Command) (words : List (List ℕ)) → clone_of words ≡ Ok command → IsLater command
+unfolding clone_of
+clone_in command [] h = cc
+clone_in command (a ∷ []) h = cc
+clone_in command (a ∷ b ∷ []) h = cc
+clone_in command (_ ∷ ds ∷ name ∷ []) h =
+    let kn : DsName → Name → Result Command Why = λ d n. Ok (commands.Clone d n) in
+    let kd : DsName → Result Command Why = λ d. name_of name >>= kn d in
+    let d = bind_ok (ds_of ds) kd command h in
+    let n = bind_ok (name_of name) (kn d.0) command d.2 in
+    let fit : IsLater (commands.Clone d.0 n.0) = tt in
+    subst IsLater (ok_same (commands.Clone d.0 n.0) command n.2) fit
+clone_in command (a ∷ b ∷ c ∷ d ∷ rest) h = cc
+
+destroy_in : (command : Command) (words : List (List ℕ)) → destroy_of words ≡ Ok command → IsLater command
+unfolding destroy_of
+destroy_in command [] h = cc
+destroy_in command (a ∷ []) h = cc
+destroy_in command (_ ∷ ds ∷ []) h =
+    let d = bind_ok (ds_of ds) (λ d. Ok (commands.Destroy d)) command h in
+    let fit : IsLater (commands.Destroy d.0) = tt in
+    subst IsLater (ok_same (commands.Destroy d.0) command d.2) fit
+destroy_in command (a ∷ b ∷ c ∷ rest) h = cc
+
+swap_in : (command : Command) (words : List (List ℕ)) → swap_of words ≡ Ok command → IsLater command
+unfolding swap_of
+swap_in command [] h = cc
+swap_in command (a ∷ []) h = cc
+swap_in command (a ∷ b ∷ []) h = cc
+swap_in command (_ ∷ first ∷ second ∷ []) h =
+    let kl : Name → Name → Result Command Why = λ n l. Ok (commands.Swap n l) in
+    let kn : Name → Result Command Why = λ n. name_of second >>= kl n in
+    let n = bind_ok (name_of first) kn command h in
+    let l = bind_ok (name_of second) (kl n.0) command n.2 in
+    let fit : IsLater (commands.Swap n.0 l.0) = tt in
+    subst IsLater (ok_same (commands.Swap n.0 l.0) command l.2) fit
+swap_in command (a ∷ b ∷ c ∷ d ∷ rest) h = cc
+
 -- what a `walk` line gives is in range
 walk_in : (command : Command) (words : List (List ℕ)) → walk_of words ≡ Ok command → IsLater command
 unfolding walk_of
@@ -274,75 +326,85 @@ Fits : Bool → Command → Type 0
 Fits true command = IsLater command
 Fits false command = IsFirst command
 
-command_fits : (verb : Verb) (pool fs : Bool) (words : List (List ℕ)) (command : Command) → is_allowed (record { pool = pool; fs = fs }) verb ≡ true → command_of verb words ≡ Ok command → Fits pool command
+command_fits : (verb : Verb) (begun : Bool) (words : List (List ℕ)) (command : Command) → is_allowed begun verb ≡ true → command_of verb words ≡ Ok command → Fits begun command
 unfolding command_of Fits
-command_fits verbs.Pool true fs words command may h = cc
-command_fits verbs.Pool false fs words command may h = pool_in command words h
-command_fits verbs.Fs false fs words command may h = cc
-command_fits verbs.Fs true fs words command may h = fs_in command words h
-command_fits verbs.Make false fs words command may h = cc
-command_fits verbs.Make true fs words command may h = make_in command words h
-command_fits verbs.Write false fs words command may h = cc
-command_fits verbs.Write true fs words command may h = write_in command words h
-command_fits verbs.Read false fs words command may h = cc
-command_fits verbs.Read true fs words command may h = read_in command words h
-command_fits verbs.Sync false fs words command may h = cc
-command_fits verbs.Sync true fs words command may h = alone_in commands.Sync command words h tt
-command_fits verbs.Scrub false fs words command may h = cc
-command_fits verbs.Scrub true fs words command may h = alone_in commands.Scrub command words h tt
-command_fits verbs.Walk false fs words command may h = cc
-command_fits verbs.Walk true fs words command may h = walk_in command words h
-command_fits verbs.Issue false fs words command may h = cc
-command_fits verbs.Issue true fs words command may h = issue_in command words h
-command_fits verbs.Hold false fs words command may h = cc
-command_fits verbs.Hold true fs words command may h = hold_in command words h
-command_fits verbs.Land false fs words command may h = cc
-command_fits verbs.Land true fs words command may h = alone_in commands.Land command words h tt
-command_fits verbs.Finish false fs words command may h = cc
-command_fits verbs.Finish true fs words command may h = alone_in commands.Finish command words h tt
-command_fits verbs.Rot false fs words command may h = cc
-command_fits verbs.Rot true fs words command may h = rot_in command words h
-command_fits verbs.Errors false fs words command may h = cc
-command_fits verbs.Errors true fs words command may h = alone_in commands.Errors command words h tt
-command_fits verbs.Status false fs words command may h = cc
-command_fits verbs.Status true fs words command may h = alone_in commands.Status command words h tt
+command_fits verbs.Pool true words command may h = cc
+command_fits verbs.Pool false words command may h = pool_in command words h
+command_fits verbs.Fs false words command may h = cc
+command_fits verbs.Fs true words command may h = fs_in command words h
+command_fits verbs.Snap false words command may h = cc
+command_fits verbs.Snap true words command may h = snap_in command words h
+command_fits verbs.Clone false words command may h = cc
+command_fits verbs.Clone true words command may h = clone_in command words h
+command_fits verbs.Destroy false words command may h = cc
+command_fits verbs.Destroy true words command may h = destroy_in command words h
+command_fits verbs.Swap false words command may h = cc
+command_fits verbs.Swap true words command may h = swap_in command words h
+command_fits verbs.Make false words command may h = cc
+command_fits verbs.Make true words command may h = make_in command words h
+command_fits verbs.Write false words command may h = cc
+command_fits verbs.Write true words command may h = write_in command words h
+command_fits verbs.Read false words command may h = cc
+command_fits verbs.Read true words command may h = read_in command words h
+command_fits verbs.Sync false words command may h = cc
+command_fits verbs.Sync true words command may h = alone_in commands.Sync command words h tt
+command_fits verbs.Scrub false words command may h = cc
+command_fits verbs.Scrub true words command may h = alone_in commands.Scrub command words h tt
+command_fits verbs.Walk false words command may h = cc
+command_fits verbs.Walk true words command may h = walk_in command words h
+command_fits verbs.Issue false words command may h = cc
+command_fits verbs.Issue true words command may h = issue_in command words h
+command_fits verbs.Hold false words command may h = cc
+command_fits verbs.Hold true words command may h = hold_in command words h
+command_fits verbs.Land false words command may h = cc
+command_fits verbs.Land true words command may h = alone_in commands.Land command words h tt
+command_fits verbs.Finish false words command may h = cc
+command_fits verbs.Finish true words command may h = alone_in commands.Finish command words h tt
+command_fits verbs.Rot false words command may h = cc
+command_fits verbs.Rot true words command may h = rot_in command words h
+command_fits verbs.Errors false words command may h = cc
+command_fits verbs.Errors true words command may h = alone_in commands.Errors command words h tt
+command_fits verbs.List false words command may h = cc
+command_fits verbs.List true words command may h = alone_in commands.List command words h tt
+command_fits verbs.Status false words command may h = cc
+command_fits verbs.Status true words command may h = alone_in commands.Status command words h tt
 
 -- a line that is passed over, or one whose command may stand there
 FoundFits : Bool → Option Line → Type 0
-FoundFits pool None = Unit {0}
-FoundFits pool (Some line) = Fits pool line.command
+FoundFits begun None = Unit {0}
+FoundFits begun (Some line) = Fits begun line.command
 
 -- a line's command that was found is the one that the line commands
 at_ok : (number : ℕ) (r : Result Command Why) (command : Command) → at_line number r ≡ Ok command → r ≡ Ok command
 at_ok number (Ok c) command h = ap Ok (ok_same c command h)
 at_ok number (Err w) command h = cc
 
-words_fit : (pool fs : Bool) (words : List (List ℕ)) (command : Command) → command_at (record { pool = pool; fs = fs }) words ≡ Ok command → Fits pool command
+words_fit : (begun : Bool) (words : List (List ℕ)) (command : Command) → command_at begun words ≡ Ok command → Fits begun command
 unfolding command_at
-words_fit pool fs words command h =
-    let v = bind_ok (verb_of words) (λ verb. cond (is_allowed (record { pool = pool; fs = fs }) verb) (command_of verb words) (Err why.Order)) command h in
-    let t = test_ok (is_allowed (record { pool = pool; fs = fs }) v.0) why.Order (command_of v.0 words) command v.2 in
-    command_fits v.0 pool fs words command t.0 t.1
+words_fit begun words command h =
+    let v = bind_ok (verb_of words) (λ verb. cond (is_allowed begun verb) (command_of verb words) (Err why.Order)) command h in
+    let t = test_ok (is_allowed begun v.0) why.Order (command_of v.0 words) command v.2 in
+    command_fits v.0 begun words command t.0 t.1
 
-text_fits : (pool fs : Bool) (bytes : List ℕ) (command : Command) → command_in (record { pool = pool; fs = fs }) bytes ≡ Ok command → Fits pool command
+text_fits : (begun : Bool) (bytes : List ℕ) (command : Command) → command_in begun bytes ≡ Ok command → Fits begun command
 unfolding command_in
-text_fits pool fs bytes command h =
-    let t = test_ok (list_all is_text_byte bytes) why.Word (command_at (record { pool = pool; fs = fs }) (words_of bytes)) command h in
-    words_fit pool fs (words_of bytes) command t.1
+text_fits begun bytes command h =
+    let t = test_ok (list_all is_text_byte bytes) why.Word (command_at begun (words_of bytes)) command h in
+    words_fit begun (words_of bytes) command t.1
 
-skipped_fits : (skipped : Bool) (number : ℕ) (pool fs : Bool) (bytes : List ℕ) (found : Option Line) → cond skipped (Ok None) (at_line number (command_in (record { pool = pool; fs = fs }) bytes) >>= λ command. Ok (Some (line_with number command))) ≡ Ok found → FoundFits pool found
+skipped_fits : (skipped : Bool) (number : ℕ) (begun : Bool) (bytes : List ℕ) (found : Option Line) → cond skipped (Ok None) (at_line number (command_in begun bytes) >>= λ command. Ok (Some (line_with number command))) ≡ Ok found → FoundFits begun found
 unfolding FoundFits
-skipped_fits true number pool fs bytes found h = subst (FoundFits pool) (ok_same None found h) tt
-skipped_fits false number pool fs bytes found h =
-    let c = bind_ok (at_line number (command_in (record { pool = pool; fs = fs }) bytes)) (λ command. Ok (Some (line_with number command))) found h in
-    let fits : FoundFits pool (Some (line_with number c.0)) = text_fits pool fs bytes c.0 (at_ok number (command_in (record { pool = pool; fs = fs }) bytes) c.0 c.1) in
-    subst (FoundFits pool) (ok_same (Some (line_with number c.0)) found c.2) fits
+skipped_fits true number begun bytes found h = subst (FoundFits begun) (ok_same None found h) tt
+skipped_fits false number begun bytes found h =
+    let c = bind_ok (at_line number (command_in begun bytes)) (λ command. Ok (Some (line_with number command))) found h in
+    let fits : FoundFits begun (Some (line_with number c.0)) = text_fits begun bytes c.0 (at_ok number (command_in begun bytes) c.0 c.1) in
+    subst (FoundFits begun) (ok_same (Some (line_with number c.0)) found c.2) fits
 
-line_fits : (number : ℕ) (pool fs : Bool) (line : TextLine) (found : Option Line) → line_of number (record { pool = pool; fs = fs }) line ≡ Ok found → FoundFits pool found
+line_fits : (number : ℕ) (begun : Bool) (line : TextLine) (found : Option Line) → line_of number begun line ≡ Ok found → FoundFits begun found
 unfolding line_of
-line_fits number pool fs line found h =
-    let g = guard_ok line.over (faults.Bad number why.Size) (cond (is_skipped line.bytes) (Ok None) (at_line number (command_in (record { pool = pool; fs = fs }) line.bytes) >>= λ command. Ok (Some (line_with number command)))) found h in
-    skipped_fits (is_skipped line.bytes) number pool fs line.bytes found g.1
+line_fits number begun line found h =
+    let g = guard_ok line.over (faults.Bad number why.Size) (cond (is_skipped line.bytes) (Ok None) (at_line number (command_in begun line.bytes) >>= λ command. Ok (Some (line_with number command)))) found h in
+    skipped_fits (is_skipped line.bytes) number begun line.bytes found g.1
 
 -- the lines that may follow
 Fit : Bool → List Line → Type 0
@@ -350,33 +412,25 @@ Fit true lines = AllByRecursion (λ line. IsLater line.command) lines
 Fit false [] = Unit {0}
 Fit false (line ∷ lines) = IsFirst line.command × AllByRecursion (λ later. IsLater later.command) lines
 
-begun_first : (fs : Bool) (command : Command) → IsFirst command → (with_command (record { pool = false; fs = fs }) command).pool ≡ true
-begun_first fs (commands.Pool pool width limit every blocks) h = refl
-begun_first fs command h = absurd h
-
-begun_later : (fs : Bool) (command : Command) → IsLater command → (with_command (record { pool = true; fs = fs }) command).pool ≡ true
-begun_later fs (commands.Pool pool width limit every blocks) h = absurd h
-begun_later fs command h = refl
-
-joined : (pool fs : Bool) (found : Option Line) (more : List Line) → FoundFits pool found → Fit (with_line (record { pool = pool; fs = fs }) found).pool more → Fit pool (option_to_list found ++ more)
+joined : (begun : Bool) (found : Option Line) (more : List Line) → FoundFits begun found → Fit (with_line begun found) more → Fit begun (option_to_list found ++ more)
 unfolding Fit Fits FoundFits
-joined pool fs None more h rest = rest
-joined false fs (Some line) more h rest = (h, subst (λ (b : Bool). Fit b more) (begun_first fs line.command h) rest)
-joined true fs (Some line) more h rest = (h, subst (λ (b : Bool). Fit b more) (begun_later fs line.command h) rest)
+joined begun None more h rest = rest
+joined false (Some line) more h rest = (h, rest)
+joined true (Some line) more h rest = (h, rest)
 
-fit_nil : (pool : Bool) → Fit pool []
+fit_nil : (begun : Bool) → Fit begun []
 unfolding Fit
 fit_nil true = tt
 fit_nil false = tt
 
-lines_fit : (lines : List TextLine) (number : ℕ) (before : Before) (all : List Line) → lines_from number before lines ≡ Ok all → Fit before.pool all
+lines_fit : (lines : List TextLine) (number : ℕ) (begun : Bool) (all : List Line) → lines_from number begun lines ≡ Ok all → Fit begun all
 unfolding lines_from
-lines_fit [] number before all h = subst (Fit before.pool) (ok_same [] all h) (fit_nil before.pool)
-lines_fit (line ∷ lines) number before all h =
-    let f = bind_ok (line_of number before line) (λ found. lines_from (number + 1) (with_line before found) lines >>= λ more. Ok (option_to_list found ++ more)) all h in
-    let m = bind_ok (lines_from (number + 1) (with_line before f.0) lines) (λ more. Ok (option_to_list f.0 ++ more)) all f.2 in
-    subst (Fit before.pool) (ok_same (option_to_list f.0 ++ m.0) all m.2)
-    (joined before.pool before.fs f.0 m.0 (line_fits number before.pool before.fs line f.0 f.1) (lines_fit lines (number + 1) (with_line before f.0) m.0 m.1))
+lines_fit [] number begun all h = subst (Fit begun) (ok_same [] all h) (fit_nil begun)
+lines_fit (line ∷ lines) number begun all h =
+    let f = bind_ok (line_of number begun line) (λ found. lines_from (number + 1) (with_line begun found) lines >>= λ more. Ok (option_to_list found ++ more)) all h in
+    let m = bind_ok (lines_from (number + 1) (with_line begun f.0) lines) (λ more. Ok (option_to_list f.0 ++ more)) all f.2 in
+    subst (Fit begun) (ok_same (option_to_list f.0 ++ m.0) all m.2)
+    (joined begun f.0 m.0 (line_fits number begun line f.0 f.1) (lines_fit lines (number + 1) (with_line begun f.0) m.0 m.1))
 
 some_fits : (lines all : List Line) → Fit false lines → some_line lines ≡ Ok all → IsScript all
 unfolding Fit
@@ -387,5 +441,5 @@ some_fits (line ∷ lines) all fit h = subst IsScript (ok_same (line ∷ lines) 
 pub script_fits : (bytes : List ℕ) (all : List Line) → parsed_script bytes ≡ Ok all → IsScript all
 unfolding parsed_script
 script_fits bytes all h =
-    let r = bind_ok (lines_from 1 nothing_before (lines_of (nat_lt SCRIPT_BYTES (length bytes)) (take SCRIPT_BYTES bytes))) some_line all h in
-    some_fits r.0 all (lines_fit _ 1 nothing_before r.0 r.1) r.2
+    let r = bind_ok (lines_from 1 false (lines_of (nat_lt SCRIPT_BYTES (length bytes)) (take SCRIPT_BYTES bytes))) some_line all h in
+    some_fits r.0 all (lines_fit _ 1 false r.0 r.1) r.2

@@ -8,7 +8,7 @@ use Rattle.std.specs.Str.Lines.{strip_carriage_return}
 use Rattle.std.proofs.lemmas.List.Splits.{slice_split_first, slice_split_none}
 use Rattle.zs_script.specs.Faults.{◌>>=◌}
 use Rattle.zs_script.specs.Verbs.{verb_of, verb_named, followed_verb}
-use Rattle.zs_script.specs.Rows.{pool_of, fs_of, make_of, write_of, read_of, walk_of, issue_of, hold_of, rot_of, alone_of, command_of}
+use Rattle.zs_script.specs.Rows.{pool_of, fs_of, snap_of, clone_of, destroy_of, swap_of, make_of, write_of, read_of, walk_of, issue_of, hold_of, rot_of, alone_of, command_of}
 use Rattle.zs_script.specs.Script.{TextLine, lines_of, lines_of_parts, is_allowed, with_line, words_of, is_text_byte, command_at, command_in, at_line, line_of, lines_from, Fails, Gives}
 use Rattle.zs_script.specs.Reading.{lines_left, behind, Passes, Stops}
 use Rattle.zs_script.specs.declared.command.Line.{Line}
@@ -17,7 +17,6 @@ use Rattle.zs_script.specs.declared.command.ScriptFault.TheVariants as faults
 use Rattle.zs_script.specs.declared.command.Why.TheVariants as why
 use Rattle.zs_script.specs.declared.verb.Verb.{Verb}
 use Rattle.zs_script.specs.declared.verb.Verb.TheVariants as verbs
-use Rattle.zs_script.specs.declared.script.Before.{Before}
 
 -- a function gives what it is
 pub gives_itself : {X : Type 0} → (r read : Result X ScriptFault) → r ≡ read → Gives (λ x. x) r read
@@ -32,9 +31,13 @@ bind_same (Err e) f g h = refl
 
 -- no command takes seven words
 seven : (verb : Verb) (a b c d e f g : List ℕ) (rest : List (List ℕ)) → command_of verb (a ∷ b ∷ c ∷ d ∷ e ∷ f ∷ g ∷ []) ≡ command_of verb (a ∷ b ∷ c ∷ d ∷ e ∷ f ∷ g ∷ rest)
-unfolding command_of pool_of fs_of make_of write_of read_of walk_of issue_of hold_of rot_of alone_of
+unfolding command_of pool_of fs_of snap_of clone_of destroy_of swap_of make_of write_of read_of walk_of issue_of hold_of rot_of alone_of
 seven verbs.Pool a b c d e f g rest = refl
 seven verbs.Fs a b c d e f g rest = refl
+seven verbs.Snap a b c d e f g rest = refl
+seven verbs.Clone a b c d e f g rest = refl
+seven verbs.Destroy a b c d e f g rest = refl
+seven verbs.Swap a b c d e f g rest = refl
 seven verbs.Make a b c d e f g rest = refl
 seven verbs.Write a b c d e f g rest = refl
 seven verbs.Read a b c d e f g rest = refl
@@ -47,25 +50,26 @@ seven verbs.Land a b c d e f g rest = refl
 seven verbs.Finish a b c d e f g rest = refl
 seven verbs.Rot a b c d e f g rest = refl
 seven verbs.Errors a b c d e f g rest = refl
+seven verbs.List a b c d e f g rest = refl
 seven verbs.Status a b c d e f g rest = refl
 
 -- so the words from the eighth on make no difference
-pub many_words : (before : Before) (words : List (List ℕ)) → command_at before (take 7 words) ≡ command_at before words
+pub many_words : (begun : Bool) (words : List (List ℕ)) → command_at begun (take 7 words) ≡ command_at begun words
 unfolding command_at verb_of
-many_words before [] = refl
-many_words before (a ∷ []) = refl
-many_words before (a ∷ b ∷ []) = refl
-many_words before (a ∷ b ∷ c ∷ []) = refl
-many_words before (a ∷ b ∷ c ∷ d ∷ []) = refl
-many_words before (a ∷ b ∷ c ∷ d ∷ e ∷ []) = refl
-many_words before (a ∷ b ∷ c ∷ d ∷ e ∷ f ∷ []) = refl
-many_words before (a ∷ b ∷ c ∷ d ∷ e ∷ f ∷ g ∷ rest) =
-    bind_same (verb_named a >>= followed_verb) _ _ (λ verb. ap (λ r. cond (is_allowed before verb) r (Err why.Order)) (seven verb a b c d e f g rest))
+many_words begun [] = refl
+many_words begun (a ∷ []) = refl
+many_words begun (a ∷ b ∷ []) = refl
+many_words begun (a ∷ b ∷ c ∷ []) = refl
+many_words begun (a ∷ b ∷ c ∷ d ∷ []) = refl
+many_words begun (a ∷ b ∷ c ∷ d ∷ e ∷ []) = refl
+many_words begun (a ∷ b ∷ c ∷ d ∷ e ∷ f ∷ []) = refl
+many_words begun (a ∷ b ∷ c ∷ d ∷ e ∷ f ∷ g ∷ rest) =
+    bind_same (verb_named a >>= followed_verb) _ _ (λ verb. ap (λ r. cond (is_allowed begun verb) r (Err why.Order)) (seven verb a b c d e f g rest))
 
 -- what the words of a line command, of which the first seven were taken
-pub text_commands : (number : ℕ) (before : Before) (line : List ℕ) (words : List (List ℕ)) → list_all is_text_byte line ≡ true → words ≡ take 7 (words_of line) → at_line number (command_at before words) ≡ at_line number (command_in before line)
+pub text_commands : (number : ℕ) (begun : Bool) (line : List ℕ) (words : List (List ℕ)) → list_all is_text_byte line ≡ true → words ≡ take 7 (words_of line) → at_line number (command_at begun words) ≡ at_line number (command_in begun line)
 unfolding command_in
-text_commands number before line words text are = rw (text, are) (ap (at_line number) (many_words before (words_of line)))
+text_commands number begun line words text are = rw (text, are) (ap (at_line number) (many_words begun (words_of line)))
 
 -- a text has a part
 cons_cond : (b : Bool) (x : ℕ) (parts : List (List ℕ)) → (y : List ℕ) × (ys : List (List ℕ)) × (cond b ([] ∷ parts) (onto_first x parts) ≡ y ∷ ys)
@@ -117,17 +121,17 @@ behind_behind lines mid (Ok more) = ap Ok (sym (append_assoc lines mid more))
 behind_behind lines mid (Err e) = refl
 
 -- a line that is read is put behind the lines so far
-pub passes : (lines : List Line) (number : ℕ) (before : Before) (line : TextLine) (found : Option Line) → line_of number before line ≡ Ok found → Passes lines number before line (lines ++ option_to_list found) (with_line before found)
+pub passes : (lines : List Line) (number : ℕ) (begun : Bool) (line : TextLine) (found : Option Line) → line_of number begun line ≡ Ok found → Passes lines number begun line (lines ++ option_to_list found) (with_line begun found)
 unfolding lines_from
-passes lines number before line found is = record { read = λ more. rw is (behind_behind lines (option_to_list found) (lines_from (number + 1) (with_line before found) more)) }
+passes lines number begun line found is = record { read = λ more. rw is (behind_behind lines (option_to_list found) (lines_from (number + 1) (with_line begun found) more)) }
 
 -- a faulty line ends the reading
-pub stops : (lines : List Line) (number : ℕ) (before : Before) (line : TextLine) (fault : ScriptFault) → Fails fault (line_of number before line) → Stops lines number before line fault
+pub stops : (lines : List Line) (number : ℕ) (begun : Bool) (line : TextLine) (fault : ScriptFault) → Fails fault (line_of number begun line) → Stops lines number begun line fault
 unfolding lines_from
-stops lines number before line faults.Memory is = record { read = λ more. tt }
-stops lines number before line (faults.Bad at w) is = record { read = λ more. rw is refl }
+stops lines number begun line faults.Memory is = record { read = λ more. tt }
+stops lines number begun line (faults.Bad at w) is = record { read = λ more. rw is refl }
 
 -- where no text is left, no line follows
-pub nothing_left : (cut : Bool) (lines : List Line) (number : ℕ) (before : Before) (rest : Option (List ℕ)) → rest ≡ None → behind lines (lines_from number before (lines_left cut rest)) ≡ Ok lines
+pub nothing_left : (cut : Bool) (lines : List Line) (number : ℕ) (begun : Bool) (rest : Option (List ℕ)) → rest ≡ None → behind lines (lines_from number begun (lines_left cut rest)) ≡ Ok lines
 unfolding lines_from
-nothing_left cut lines number before rest is = rw is (ap Ok (append-nil lines))
+nothing_left cut lines number begun rest is = rw is (ap Ok (append-nil lines))

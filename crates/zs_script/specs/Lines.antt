@@ -59,6 +59,10 @@ IsFirst _ = ⊥
 -- a later command
 abbrev pub IsLater : Command → Type 0
 IsLater (commands.Fs name) = Unit {0}
+IsLater (commands.Snap head label) = Unit {0}
+IsLater (commands.Clone ds name) = Unit {0}
+IsLater (commands.Destroy ds) = Unit {0}
+IsLater (commands.Swap first second) = Unit {0}
 IsLater (commands.Make ds object levels size fill) = IsMake object levels size
 IsLater (commands.Write ds object leaf fill) = IsRecord object leaf
 IsLater (commands.Read ds object leaf) = IsRecord object leaf
@@ -71,6 +75,7 @@ IsLater commands.Land = Unit {0}
 IsLater commands.Finish = Unit {0}
 IsLater (commands.Rot dev sector count) = IsRot dev sector count
 IsLater commands.Errors = Unit {0}
+IsLater commands.List = Unit {0}
 IsLater commands.Status = Unit {0}
 IsLater _ = ⊥
 

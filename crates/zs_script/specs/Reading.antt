@@ -4,7 +4,6 @@ use Rattle.zs_script.specs.Faults.{◌>>=◌}
 use Rattle.zs_script.specs.Script.{TextLine, lines_of, lines_from, Fails}
 use Rattle.zs_script.specs.declared.command.Line.{Line}
 use Rattle.zs_script.specs.declared.command.ScriptFault.{ScriptFault}
-use Rattle.zs_script.specs.declared.script.Before.{Before}
 
 -- the lines of what is left of a text
 abbrev pub lines_left : Bool → Option (List ℕ) → List TextLine
@@ -20,10 +19,10 @@ left (Some text) = length text + 1
 abbrev pub behind : List Line → Result (List Line) ScriptFault → Result (List Line) ScriptFault
 behind front read = read >>= λ more. Ok (front ++ more)
 
--- reading a line with this number made the lines so far into these, and what stood before it into next
-pub record Passes (lines : List Line) (number : ℕ) (before : Before) (line : TextLine) (new : List Line) (next : Before) : Type 0 where
-  pub read : (more : List TextLine) → behind lines (lines_from number before (line ∷ more)) ≡ behind new (lines_from (number + 1) next more)
+-- reading a line with this number made the lines so far into these, and whether a pool was made into next
+pub record Passes (lines : List Line) (number : ℕ) (begun : Bool) (line : TextLine) (new : List Line) (next : Bool) : Type 0 where
+  pub read : (more : List TextLine) → behind lines (lines_from number begun (line ∷ more)) ≡ behind new (lines_from (number + 1) next more)
 
 -- reading a line with this number came to this fault
-pub record Stops (lines : List Line) (number : ℕ) (before : Before) (line : TextLine) (fault : ScriptFault) : Type 0 where
-  pub read : (more : List TextLine) → Fails fault (behind lines (lines_from number before (line ∷ more)))
+pub record Stops (lines : List Line) (number : ℕ) (begun : Bool) (line : TextLine) (fault : ScriptFault) : Type 0 where
+  pub read : (more : List TextLine) → Fails fault (behind lines (lines_from number begun (line ∷ more)))

@@ -73,6 +73,37 @@ fs_of (_ ∷ name ∷ []) = do
   Ok (commands.Fs name)
 fs_of _ = Err why.Count
 
+-- `snap HEAD LABEL`
+unfoldable pub snap_of : List (List ℕ) → Result Command Why
+snap_of (_ ∷ head ∷ label ∷ []) = do
+  head ← name_of head
+  label ← name_of label
+  Ok (commands.Snap head label)
+snap_of _ = Err why.Count
+
+-- `clone DS NAME`
+unfoldable pub clone_of : List (List ℕ) → Result Command Why
+clone_of (_ ∷ ds ∷ name ∷ []) = do
+  ds ← ds_of ds
+  name ← name_of name
+  Ok (commands.Clone ds name)
+clone_of _ = Err why.Count
+
+-- `destroy DS`
+unfoldable pub destroy_of : List (List ℕ) → Result Command Why
+destroy_of (_ ∷ ds ∷ []) = do
+  ds ← ds_of ds
+  Ok (commands.Destroy ds)
+destroy_of _ = Err why.Count
+
+-- `swap HEAD HEAD`
+unfoldable pub swap_of : List (List ℕ) → Result Command Why
+swap_of (_ ∷ first ∷ second ∷ []) = do
+  first ← name_of first
+  second ← name_of second
+  Ok (commands.Swap first second)
+swap_of _ = Err why.Count
+
 -- the words of `make`
 unfoldable pub make_with : List ℕ → List ℕ → List ℕ → List ℕ → List ℕ → Result Command Why
 make_with ds object levels size fill = do
@@ -152,6 +183,10 @@ alone_of command _ = Err why.Count
 unfoldable pub command_of : Verb → List (List ℕ) → Result Command Why
 command_of verbs.Pool words = pool_of words
 command_of verbs.Fs words = fs_of words
+command_of verbs.Snap words = snap_of words
+command_of verbs.Clone words = clone_of words
+command_of verbs.Destroy words = destroy_of words
+command_of verbs.Swap words = swap_of words
 command_of verbs.Make words = make_of words
 command_of verbs.Write words = write_of words
 command_of verbs.Read words = read_of words
@@ -164,4 +199,5 @@ command_of verbs.Land words = alone_of commands.Land words
 command_of verbs.Finish words = alone_of commands.Finish words
 command_of verbs.Rot words = rot_of words
 command_of verbs.Errors words = alone_of commands.Errors words
+command_of verbs.List words = alone_of commands.List words
 command_of verbs.Status words = alone_of commands.Status words

@@ -8,7 +8,6 @@ use Rattle.zs_script.specs.Faults.{◌>>=◌}
 use Rattle.zs_script.specs.Verbs.{verb_of}
 use Rattle.zs_script.specs.Rows.{command_of}
 use Rattle.zs_script.specs.declared.command.Command.{Command}
-use Rattle.zs_script.specs.declared.command.Command.TheVariants as commands
 use Rattle.zs_script.specs.declared.command.Line.{Line}
 use Rattle.zs_script.specs.declared.command.ScriptFault.{ScriptFault}
 use Rattle.zs_script.specs.declared.command.ScriptFault.TheVariants as faults
@@ -16,7 +15,6 @@ use Rattle.zs_script.specs.declared.command.Why.{Why}
 use Rattle.zs_script.specs.declared.command.Why.TheVariants as why
 use Rattle.zs_script.specs.declared.verb.Verb.{Verb}
 use Rattle.zs_script.specs.declared.verb.Verb.TheVariants as verbs
-use Rattle.zs_script.specs.declared.script.Before.{Before}
 
 -- a line without its end, and whether the byte behind the most that a script may have stands in it
 pub record TextLine : Type 0 where
@@ -46,33 +44,25 @@ is_text_byte b = nat_le 32 b && nat_le b 126
 abbrev pub is_skipped : List ℕ → Bool
 is_skipped line = length line == 0 || slice_index line 0 == 35
 
--- whether the command may stand behind what stood before. `pool` comes first and nowhere else; one `fs` may stand in
--- a script in this version.
-abbrev pub is_allowed : Before → Verb → Bool
-is_allowed before verbs.Pool = not before.pool
-is_allowed before verbs.Fs = before.pool && not before.fs
-is_allowed before verb = before.pool
+-- whether the command may stand where a pool was made, or not. `pool` comes first and nowhere else.
+abbrev pub is_allowed : Bool → Verb → Bool
+is_allowed begun verbs.Pool = not begun
+is_allowed begun verb = begun
 
--- what stands before the line behind this command
-abbrev pub with_command : Before → Command → Before
-with_command before (commands.Pool pool width limit every blocks) = record { pool = true; fs = before.fs }
-with_command before (commands.Fs name) = record { pool = before.pool; fs = true }
-with_command before command = before
-
--- what stands before the line behind this one
-abbrev pub with_line : Before → Option Line → Before
-with_line before None = before
-with_line before (Some line) = with_command before line.command
+-- whether a pool was made before the line behind this one; the first command is `pool`
+abbrev pub with_line : Bool → Option Line → Bool
+with_line begun None = begun
+with_line begun (Some line) = true
 
 -- what a line's words command
-unfoldable pub command_at : Before → List (List ℕ) → Result Command Why
-command_at before words = do
+unfoldable pub command_at : Bool → List (List ℕ) → Result Command Why
+command_at begun words = do
   verb ← verb_of words
-  if is_allowed before verb then command_of verb words else Err why.Order
+  if is_allowed begun verb then command_of verb words else Err why.Order
 
 -- what a line that is not passed over commands
-unfoldable pub command_in : Before → List ℕ → Result Command Why
-command_in before line = if list_all is_text_byte line then command_at before (words_of line) else Err why.Word
+unfoldable pub command_in : Bool → List ℕ → Result Command Why
+command_in begun line = if list_all is_text_byte line then command_at begun (words_of line) else Err why.Word
 
 -- the same, with the number of the line at which it went wrong
 abbrev pub at_line : {X : Type 0} → ℕ → Result X Why → Result X ScriptFault
@@ -84,18 +74,18 @@ abbrev pub line_with : ℕ → Command → Line
 line_with number command = record { number = number; by = 0; command = command }
 
 -- a line that is passed over is none
-unfoldable pub line_of : ℕ → Before → TextLine → Result (Option Line) ScriptFault
-line_of number before line =
+unfoldable pub line_of : ℕ → Bool → TextLine → Result (Option Line) ScriptFault
+line_of number begun line =
     if line.over then Err (faults.Bad number why.Size)
     else (if is_skipped line.bytes then Ok None
-    else (at_line number (command_in before line.bytes) >>= λ command. Ok (Some (line_with number command))))
+    else (at_line number (command_in begun line.bytes) >>= λ command. Ok (Some (line_with number command))))
 
 -- the lines, of which the first has this number
-unfoldable pub lines_from : ℕ → Before → List TextLine → Result (List Line) ScriptFault
-lines_from number before [] = Ok []
-lines_from number before (line ∷ lines) = do
-  found ← line_of number before line
-  more ← lines_from (number + 1) (with_line before found) lines
+unfoldable pub lines_from : ℕ → Bool → List TextLine → Result (List Line) ScriptFault
+lines_from number begun [] = Ok []
+lines_from number begun (line ∷ lines) = do
+  found ← line_of number begun line
+  more ← lines_from (number + 1) (with_line begun found) lines
   Ok (option_to_list found ++ more)
 
 -- some line has a command
@@ -103,14 +93,10 @@ abbrev pub some_line : List Line → Result (List Line) ScriptFault
 some_line [] = Err (faults.Bad 1 why.Order)
 some_line (line ∷ lines) = Ok (line ∷ lines)
 
--- nothing stood before
-abbrev pub nothing_before : Before
-nothing_before = record { pool = false; fs = false }
-
 -- the lines of a script, or its first fault
 unfoldable pub parsed_script : List ℕ → Result (List Line) ScriptFault
 parsed_script bytes =
-    lines_from 1 nothing_before (lines_of (nat_lt SCRIPT_BYTES (length bytes)) (take SCRIPT_BYTES bytes)) >>= some_line
+    lines_from 1 false (lines_of (nat_lt SCRIPT_BYTES (length bytes)) (take SCRIPT_BYTES bytes)) >>= some_line
 
 -- what a function gives, seen by view, is what reading gives, unless memory was wanting
 abbrev pub Fails : {Y : Type 0} → ScriptFault → Result Y ScriptFault → Type 0

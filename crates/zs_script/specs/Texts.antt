@@ -14,6 +14,7 @@ use Rattle.zs_script.specs.declared.reply.ErrorPiece.{ErrorPiece}
 use Rattle.zs_script.specs.declared.reply.Finished.{Finished}
 use Rattle.zs_script.specs.declared.reply.IssuedPiece.{IssuedPiece}
 use Rattle.zs_script.specs.declared.reply.LandedPiece.{LandedPiece}
+use Rattle.zs_script.specs.declared.reply.Listed.{Listed}
 use Rattle.zs_script.specs.declared.reply.Letter.{Letter}
 use Rattle.zs_script.specs.declared.reply.Letter.TheVariants as letters
 use Rattle.zs_script.specs.declared.reply.ScanKind.{ScanKind}
@@ -141,6 +142,10 @@ error_line p =
     codes "error " ++ decimal p.vdev ++ codes " " ++ decimal p.sector ++ codes " " ++ decimal p.birth ++ codes " "
     ++ letters_text p.letters ++ codes "\n"
 
+-- a dataset: its name, its creation, and how many blocks its map has
+abbrev pub listed_line : Listed → List ℕ
+listed_line d = codes "ds " ++ ds_text d.name ++ codes " " ++ decimal d.creation ++ codes " " ++ decimal d.blocks ++ codes "\n"
+
 -- the record of a dataset of which a reply speaks
 abbrev pub record_text : DsName → ℕ → ℕ → List ℕ
 record_text ds object leaf = ds_text ds ++ codes " " ++ decimal object ++ codes " " ++ decimal leaf
@@ -161,6 +166,7 @@ reply_lines (replies.Held vdev sectors) = codes "hold " ++ decimal vdev ++ codes
 reply_lines (replies.Landed entries pieces) = codes "land " ++ decimal entries ++ flat_map landed_text pieces ++ codes "\n"
 reply_lines (replies.Rotted dev sector count) = codes "rot " ++ decimal dev ++ codes " " ++ decimal sector ++ codes " " ++ decimal count ++ codes "\n"
 reply_lines (replies.Errors pieces) = codes "errors " ++ decimal (length pieces) ++ codes "\n" ++ flat_map error_line pieces
+reply_lines (replies.List datasets) = flat_map listed_line datasets
 reply_lines (replies.Status txg scan) = codes "txg " ++ decimal txg ++ codes "\n" ++ scan_lines scan
 reply_lines (replies.RefusedSync txg refusal) = codes "sync " ++ decimal txg ++ codes " refused " ++ refusal_name refusal ++ codes "\n"
 reply_lines (replies.Refused refusal) = codes "refused " ++ refusal_name refusal ++ codes "\n"

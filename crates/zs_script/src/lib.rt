@@ -13,11 +13,11 @@
 //!
 //! To add a command that is built: a variant of `Verb` with its word (`verb`, `specs/Verbs`), its row of words
 //! (`rows`, `specs/Rows`), its ranges (`specs/Lines`, `proofs/RangeLemmas`). To change what a number or a name may be see
-//! `fields`; to change where a command may stand see `Before::allows` of `script`; to change what a line is see `next_line`
+//! `fields`; to change where a command may stand see `allows` of `script`; to change what a line is see `next_line`
 //! there. A reply's text is one function in `texts` or `scan_texts` and one equation in `specs/Texts`.
 //!
-//! Narrow in this version, each in one place: an object has one level (`LEVELS` of `rows`, `levels_of`), a script has
-//! one `fs` line (`Before::allows`, `is_allowed`), and commands that are not built yet are no words (`Verb`).
+//! Narrow in this version, each in one place: an object has one level (`LEVELS` of `rows`, `levels_of`), and commands that are
+//! not built yet are no words (`Verb`).
 #![tactic(auto)]
 
 pub mod command;
@@ -34,12 +34,14 @@ mod verb;
 pub use command::{Command, Line, ScriptFault, Why};
 pub use refusal::Refusal;
 pub use reply::{
-    ErrorPiece, Finished, IssuedPiece, LandedPiece, Letter, Reply, ScanKind, ScanState, ScanStatus,
-    TodoEntry, WalkEnd, WalkPlace, Walking,
+    ErrorPiece, Finished, IssuedPiece, LandedPiece, Letter, Listed, Reply, ScanKind, ScanState,
+    ScanStatus, TodoEntry, WalkEnd, WalkPlace, Walking,
 };
 pub use script::parse;
 pub use texts::text;
 
+#[cfg(test)]
+mod dataset_tests;
 #[cfg(test)]
 mod reply_tests;
 #[cfg(test)]

@@ -144,6 +144,17 @@ pub struct ErrorPiece {
     pub letters: [Option<Letter>; 4],
 }
 
+/// A dataset, as a reply tells it.
+#[derive(Clone, Copy, Debug, PartialEq, Eq)]
+pub struct Listed {
+    /// Its name.
+    pub name: DsName,
+    /// The transaction group that took it as a snapshot; 0 for a head.
+    pub creation: u64,
+    /// How many blocks its map has.
+    pub blocks: u32,
+}
+
 /// A scan that came to its end.
 #[derive(Clone, Copy, Debug, PartialEq, Eq)]
 pub struct Finished {
@@ -318,6 +329,11 @@ pub enum Reply {
     Errors {
         /// The damaged pieces, in order of mirror, sector and birth.
         pieces: Seq<ErrorPiece>,
+    },
+    /// `ds NAME CREATION BLOCKS` for each dataset.
+    List {
+        /// The datasets, in order of id.
+        datasets: Seq<Listed>,
     },
     /// `txg T`, and how the scan stands.
     Status {

@@ -256,6 +256,33 @@ fn texts_of_damage(rt: HostRuntime) -> Result<(), Fail> {
     Ok(())
 }
 
+#[test]
+fn texts_of_datasets(rt: HostRuntime) -> Result<(), Fail> {
+    let alloc = rt.alloc();
+    let origin = Listed {
+        name: ORIGIN,
+        creation: 1,
+        blocks: 0,
+    };
+    let head = Listed {
+        name: HEAD,
+        creation: 0,
+        blocks: 3,
+    };
+    let snapshot = Listed {
+        name: SNAPSHOT,
+        creation: 3,
+        blocks: 3,
+    };
+    let datasets = Seq::from_slice(alloc, &[origin, head, snapshot])?;
+    let reply = Reply::List { datasets };
+    assert!(rt; prints(alloc, 0, &reply, "ds $origin 1 0\nds a 0 3\nds a@s3 3 3\n")?);
+    let datasets = Seq::from_slice(alloc, &[origin])?;
+    let reply = Reply::List { datasets };
+    assert!(rt; prints(alloc, 5, &reply, "5 ds $origin 1 0\n")?);
+    Ok(())
+}
+
 /// The state of a scrub.
 fn scrub(state: ScanState, waiting: u32, walking: Option<Walking>) -> ScanStatus {
     ScanStatus {

@@ -1,7 +1,7 @@
 //! A line's words, and the command that they make.
 
 ghost use Rattle.std.specs.Prelude.{◌≡◌, map};
-ghost use Rattle.zs_script.specs.Rows.{pool_with, pool_of, fs_of, make_with, make_of, write_with, write_of, read_of, walk_of, issue_of, hold_of, rot_of, alone_of, command_of};
+ghost use Rattle.zs_script.specs.Rows.{pool_with, pool_of, fs_of, snap_of, clone_of, destroy_of, swap_of, make_with, make_of, write_with, write_of, read_of, walk_of, issue_of, hold_of, rot_of, alone_of, command_of};
 
 use crate::command::{Command, Why};
 use crate::fields::{blocks, ds_name, name, number, size};
@@ -40,6 +40,10 @@ pub(crate) fn command_with(verb: Verb, words: &[&[u8]]) -> Result<Command, Why>
     match verb {
         Verb::Pool => pool(words),
         Verb::Fs => fs(words),
+        Verb::Snap => snap(words),
+        Verb::Clone => clone(words),
+        Verb::Destroy => destroy(words),
+        Verb::Swap => swap(words),
         Verb::Make => make(words),
         Verb::Write => write(words),
         Verb::Read => read(words),
@@ -52,6 +56,7 @@ pub(crate) fn command_with(verb: Verb, words: &[&[u8]]) -> Result<Command, Why>
         Verb::Finish => alone(words, Command::Finish),
         Verb::Rot => rot(words),
         Verb::Errors => alone(words, Command::Errors),
+        Verb::List => alone(words, Command::List),
         Verb::Status => alone(words, Command::Status),
     }
 }
@@ -100,6 +105,65 @@ fn fs(words: &[&[u8]]) -> Result<Command, Why>
         [_, head] => {
             let name = name(head)?;
             Ok(Command::Fs { name })
+        }
+        _ => Err(Why::Count),
+    }
+}
+
+/// `snap HEAD LABEL`.
+#[tactic(auto, unfolding(crate::specs::Rows::snap_of))]
+fn snap(words: &[&[u8]]) -> Result<Command, Why>
+    ensures { result ≡ snap_of (map (λ w. w.now) words.now) }
+{
+    match words {
+        [_, head, label] => {
+            let head = name(head)?;
+            let label = name(label)?;
+            Ok(Command::Snap { head, label })
+        }
+        _ => Err(Why::Count),
+    }
+}
+
+/// `clone DS NAME`.
+#[tactic(auto, unfolding(crate::specs::Rows::clone_of))]
+fn clone(words: &[&[u8]]) -> Result<Command, Why>
+    ensures { result ≡ clone_of (map (λ w. w.now) words.now) }
+{
+    match words {
+        [_, ds, head] => {
+            let ds = ds_name(ds)?;
+            let name = name(head)?;
+            Ok(Command::Clone { ds, name })
+        }
+        _ => Err(Why::Count),
+    }
+}
+
+/// `destroy DS`.
+#[tactic(auto, unfolding(crate::specs::Rows::destroy_of))]
+fn destroy(words: &[&[u8]]) -> Result<Command, Why>
+    ensures { result ≡ destroy_of (map (λ w. w.now) words.now) }
+{
+    match words {
+        [_, ds] => {
+            let ds = ds_name(ds)?;
+            Ok(Command::Destroy { ds })
+        }
+        _ => Err(Why::Count),
+    }
+}
+
+/// `swap HEAD HEAD`.
+#[tactic(auto, unfolding(crate::specs::Rows::swap_of))]
+fn swap(words: &[&[u8]]) -> Result<Command, Why>
+    ensures { result ≡ swap_of (map (λ w. w.now) words.now) }
+{
+    match words {
+        [_, first, second] => {
+            let first = name(first)?;
+            let second = name(second)?;
+            Ok(Command::Swap { first, second })
         }
         _ => Err(Why::Count),
     }

@@ -1,12 +1,12 @@
 //! The lines of a script.
 
-ghost use Rattle.std.specs.Prelude.{◌≡◌, ◌≤◌, ◌<◌, ◌+◌, ◌^◌, ◌++◌, ◌∷◌, map, take, length, position, ◌==◌, IfOk, IfErr, IfSome, OnOk};
+ghost use Rattle.std.specs.Prelude.{◌≡◌, ◌≤◌, ◌<◌, ◌+◌, ◌^◌, ◌++◌, ◌∷◌, map, take, length, position, ◌==◌, false, IfOk, IfErr, IfSome, OnOk};
 ghost use Rattle.std.specs.List.{list_all};
 ghost use Rattle.std.specs.Option.{option_to_list, option_copied};
 ghost use Rattle.std.specs.Str.Lines.{strip_carriage_return};
 ghost use Rattle.zs_script.specs.Lines.{IsScript};
 ghost use Rattle.zs_script.specs.Reading.{lines_left, left, Passes, Stops};
-ghost use Rattle.zs_script.specs.Script.{TextLine, lines_of, words_of, is_text_byte, is_skipped, is_allowed, with_command, with_line, command_at, command_in, at_line, line_of, lines_from, nothing_before, parsed_script, Gives};
+ghost use Rattle.zs_script.specs.Script.{TextLine, lines_of, words_of, is_text_byte, is_skipped, is_allowed, with_line, command_at, command_in, at_line, line_of, lines_from, parsed_script, Gives};
 
 use crate::command::{Command, Line, ScriptFault, Why};
 use crate::rows::command_with;
@@ -16,45 +16,6 @@ use zs_ids::limits::SCRIPT_BYTES;
 
 /// One more than the most words of a line.
 const MANY_WORDS: usize = 7;
-
-/// What stood before a line.
-#[derive(Clone, Copy, Debug, PartialEq, Eq)]
-pub(crate) struct Before {
-    /// Whether a pool was made.
-    pool: bool,
-    /// Whether a filesystem was made.
-    fs: bool,
-}
-
-impl Before {
-    /// Before the first line.
-    const NOTHING: Before = Before {
-        pool: false,
-        fs: false,
-    };
-
-    /// Whether the command may stand here. One `fs` may stand in a script in this version.
-    fn allows(self, verb: Verb) -> bool
-        ensures { result ≡ is_allowed self verb }
-    {
-        match verb {
-            Verb::Pool => !self.pool,
-            Verb::Fs => self.pool && !self.fs,
-            _ => self.pool,
-        }
-    }
-
-    /// What stood before the line behind this command.
-    fn with(self, command: Command) -> Before
-        ensures { result ≡ with_command self command }
-    {
-        match command {
-            Command::Pool { .. } => Before { pool: true, ..self },
-            Command::Fs { .. } => Before { fs: true, ..self },
-            _ => self,
-        }
-    }
-}
 
 /// A line of the text, and what comes behind it.
 #[derive(Clone, Copy)]
@@ -117,50 +78,50 @@ fn front(bytes: &[u8]) -> &[u8]
 /// The lines of a text. Where it is cut off, its last line reaches past the most bytes of a script.
 fn read_lines(alloc: Global, text: &[u8], cut: bool) -> Result<Vec<Line>, ScriptFault>
     requires { length text.now ≤ SCRIPT_BYTES }
-    ensures { Gives (λ v. v.items) result (lines_from 1 nothing_before (lines_of cut text.now)) }
+    ensures { Gives (λ v. v.items) result (lines_from 1 false (lines_of cut text.now)) }
 {
     let mut lines = Vec::new(alloc);
-    let mut before = Before::NOTHING;
+    let mut begun = false;
     let mut number = 1;
     let mut rest = Some(text);
     while let Some(text) = rest {
         let line = next_line(text, cut);
-        before = take_line(alloc, &mut lines, number, before, &line)?;
+        begun = take_line(alloc, &mut lines, number, begun, &line)?;
         number += 1;
         rest = line.rest;
     }
     Ok(lines)
 }
 
-/// Reads the line with this number, puts it at the end, and answers what stood before the next one.
+/// Reads the line with this number, puts it at the end, and answers whether a pool was made before the next one.
 #[tactic(auto, using(crate::proofs::ScriptLemmas::passes, crate::proofs::ScriptLemmas::stops))]
 fn take_line(
     alloc: Global,
     lines: &mut Vec<Line>,
     number: u32,
-    before: Before,
+    begun: bool,
     line: &Cut,
-) -> Result<Before, ScriptFault>
+) -> Result<bool, ScriptFault>
     ensures passes { IfOk result
-        (λ next. Passes lines.old.items number before
+        (λ next. Passes lines.old.items number begun
         (record { bytes = line.now.bytes.now; over = line.now.over }) lines.new.items next) }
-    ensures stops { IfErr result (λ fault. Stops lines.old.items number before (record { bytes = line.now.bytes.now; over = line.now.over }) fault) }
+    ensures stops { IfErr result (λ fault. Stops lines.old.items number begun (record { bytes = line.now.bytes.now; over = line.now.over }) fault) }
 {
-    let found = read_line(alloc, number, before, line.bytes, line.over)?;
-    let next = keep(lines, before, found)?;
+    let found = read_line(alloc, number, begun, line.bytes, line.over)?;
+    let next = keep(lines, begun, found)?;
     Ok(next)
 }
 
-/// Puts the line that was found, if any, at the end, and answers what stood before the next one.
-fn keep(lines: &mut Vec<Line>, before: Before, found: Option<Line>) -> Result<Before, AllocError>
-    ensures before { IfOk result (λ next. next ≡ with_line before found) }
+/// Puts the line that was found, if any, at the end, and answers whether a pool was made before the next one.
+fn keep(lines: &mut Vec<Line>, begun: bool, found: Option<Line>) -> Result<bool, AllocError>
+    ensures begun { IfOk result (λ next. next ≡ with_line begun found) }
     ensures put { OnOk result (lines.new.items ≡ lines.old.items ++ option_to_list found) }
 {
     match found {
-        None => Ok(before),
+        None => Ok(begun),
         Some(line) => {
             lines.push(line)?;
-            Ok(before.with(line.command))
+            Ok(true)
         }
     }
 }
@@ -208,11 +169,11 @@ fn without_return(line: &[u8]) -> &[u8]
 fn read_line(
     alloc: Global,
     number: u32,
-    before: Before,
+    begun: bool,
     bytes: &[u8],
     over: bool,
 ) -> Result<Option<Line>, ScriptFault>
-    ensures { Gives (λ found. found) result (line_of number before (record { bytes = bytes.now; over = over })) }
+    ensures { Gives (λ found. found) result (line_of number begun (record { bytes = bytes.now; over = over })) }
 {
     if over {
         return Err(ScriptFault::Bad {
@@ -223,7 +184,7 @@ fn read_line(
     if skips(bytes) {
         return Ok(None);
     }
-    let command = read_command(alloc, number, before, bytes)?;
+    let command = read_command(alloc, number, begun, bytes)?;
     Ok(Some(Line {
         number,
         by: 0,
@@ -243,10 +204,10 @@ fn skips(line: &[u8]) -> bool
 fn read_command(
     alloc: Global,
     number: u32,
-    before: Before,
+    begun: bool,
     line: &[u8],
 ) -> Result<Command, ScriptFault>
-    ensures { Gives (λ command. command) result (at_line number (command_in before line.now)) }
+    ensures { Gives (λ command. command) result (at_line number (command_in begun line.now)) }
 {
     if !is_text(line) {
         return Err(ScriptFault::Bad {
@@ -255,7 +216,7 @@ fn read_command(
         });
     }
     let words = words(alloc, line)?;
-    let command = command_of_words(before, &words);
+    let command = command_of_words(begun, &words);
     found_at(number, command)
 }
 
@@ -288,13 +249,23 @@ fn words(alloc: Global, line: &[u8]) -> Result<Vec<&[u8]>, AllocError>
 
 /// What the words of a line command.
 #[tactic(auto, unfolding(crate::specs::Script::command_at))]
-fn command_of_words(before: Before, words: &[&[u8]]) -> Result<Command, Why>
-    ensures { result ≡ command_at before (map (λ w. w.now) words.now) }
+fn command_of_words(begun: bool, words: &[&[u8]]) -> Result<Command, Why>
+    ensures { result ≡ command_at begun (map (λ w. w.now) words.now) }
 {
     let verb = verb_in(words)?;
-    if before.allows(verb) {
+    if allows(begun, verb) {
         command_with(verb, words)
     } else {
         Err(Why::Order)
+    }
+}
+
+/// Whether the command may stand where a pool was made, or not.
+fn allows(begun: bool, verb: Verb) -> bool
+    ensures { result ≡ is_allowed begun verb }
+{
+    match verb {
+        Verb::Pool => !begun,
+        _ => begun,
     }
 }

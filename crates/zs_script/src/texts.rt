@@ -1,13 +1,14 @@
 //! The texts of replies.
 
 ghost use Rattle.std.specs.Prelude.{◌≡◌, ◌++◌, ◌<◌, None, Some, IfOk, OnOk, codes};
+ghost use Rattle.std.specs.List.{flat_map};
 ghost use Rattle.std.specs.Fmt.{decimal};
 ghost use Rattle.zs_script.specs.Names.{name_text, ds_text};
-ghost use Rattle.zs_script.specs.Texts.{finished_line, task_line, task_lines, record_text, hex_digit, hex_text, reply_lines, reply_text};
+ghost use Rattle.zs_script.specs.Texts.{finished_line, task_line, task_lines, record_text, hex_digit, hex_text, listed_line, reply_lines, reply_text};
 ghost use Rattle.zs_script.specs.Refusals.{refusal_name};
 
 use crate::refusal::Refusal;
-use crate::reply::{Finished, Reply};
+use crate::reply::{Finished, Listed, Reply};
 use crate::scan_texts;
 use std::alloc::{AllocError, Global};
 use zs_ids::{DsName, Name};
@@ -63,6 +64,7 @@ fn lines(alloc: Global, reply: &Reply) -> Result<Vec<u8>, AllocError>
         Reply::Landed { entries, pieces } => scan_texts::landed(alloc, *entries, pieces.as_slice()),
         Reply::Rotted { dev, sector, count } => rotted(alloc, *dev, *sector, *count),
         Reply::Errors { pieces } => scan_texts::errors(alloc, pieces.as_slice()),
+        Reply::List { datasets } => listed(alloc, datasets.as_slice()),
         Reply::Status { txg, scan } => scan_texts::status(alloc, *txg, scan),
         Reply::RefusedSync { txg, refusal } => refused_sync(alloc, *txg, *refusal),
         Reply::Refused(refusal) => refused(alloc, *refusal),
@@ -157,6 +159,30 @@ fn rotted(alloc: Global, dev: u8, sector: u32, count: u32) -> Result<Vec<u8>, Al
         (λ v. v.items ≡ codes "rot " ++ decimal dev ++ codes " " ++ decimal sector ++ codes " " ++ decimal count ++ codes "\n") }
 {
     Ok(format!(in alloc; "rot {dev} {sector} {count}\n")?.into_bytes())
+}
+
+/// The lines of the datasets.
+fn listed(alloc: Global, datasets: &[Listed]) -> Result<Vec<u8>, AllocError>
+    ensures { IfOk result (λ v. v.items ≡ flat_map listed_line datasets.now) }
+{
+    let mut out = Vec::new(alloc);
+    for dataset in datasets {
+        push_listed(alloc, &mut out, dataset)?;
+    }
+    Ok(out)
+}
+
+/// Puts the line of a dataset at the end.
+fn push_listed(alloc: Global, out: &mut Vec<u8>, dataset: &Listed) -> Result<(), AllocError>
+    ensures { OnOk result (out.new.items ≡ out.old.items ++ listed_line dataset.now) }
+{
+    let creation = dataset.creation;
+    let blocks = dataset.blocks;
+    out.extend_from_slice(b"ds ")?;
+    push_ds(out, &dataset.name)?;
+    let numbers = format!(in alloc; " {creation} {blocks}\n")?;
+    out.extend_from_slice(numbers.as_bytes())?;
+    Ok(())
 }
 
 /// Puts the lines of a commit's tasks at the end.

@@ -1,7 +1,7 @@
 //! The command words.
 
 ghost use Rattle.std.specs.Prelude.{◌≡◌, map};
-ghost use Rattle.zs_script.specs.Verbs.{verb_named, followed_verb, verb_of};
+ghost use Rattle.zs_script.specs.Verbs.{verb_named, verb_before, followed_verb, verb_of};
 
 use crate::command::Why;
 
@@ -10,6 +10,10 @@ use crate::command::Why;
 pub(crate) enum Verb {
     Pool,
     Fs,
+    Snap,
+    Clone,
+    Destroy,
+    Swap,
     Make,
     Write,
     Read,
@@ -22,6 +26,7 @@ pub(crate) enum Verb {
     Finish,
     Rot,
     Errors,
+    List,
     Status,
 }
 
@@ -33,11 +38,20 @@ pub(crate) fn verb_in(words: &[&[u8]]) -> Result<Verb, Why>
     match words {
         [] => Err(Why::Word),
         [word] => named(word),
-        [word, ..] => followed(named(word)?),
+        [word, ..] => named_before(word),
     }
 }
 
+/// The command word that is spelled so, where a word follows it.
+fn named_before(word: &[u8]) -> Result<Verb, Why>
+    ensures { result ≡ verb_before word.now }
+{
+    let verb = named(word)?;
+    followed(verb)
+}
+
 /// The command word, where a word follows it. Behind `scrub` none may stand.
+#[tactic(auto, unfolding(crate::specs::Verbs::followed_verb))]
 fn followed(verb: Verb) -> Result<Verb, Why>
     ensures { result ≡ followed_verb verb }
 {
@@ -56,6 +70,14 @@ fn named(word: &[u8]) -> Result<Verb, Why>
         Ok(Verb::Pool)
     } else if word == b"fs".as_slice() {
         Ok(Verb::Fs)
+    } else if word == b"snap".as_slice() {
+        Ok(Verb::Snap)
+    } else if word == b"clone".as_slice() {
+        Ok(Verb::Clone)
+    } else if word == b"destroy".as_slice() {
+        Ok(Verb::Destroy)
+    } else if word == b"swap".as_slice() {
+        Ok(Verb::Swap)
     } else if word == b"make".as_slice() {
         Ok(Verb::Make)
     } else if word == b"write".as_slice() {
@@ -80,6 +102,8 @@ fn named(word: &[u8]) -> Result<Verb, Why>
         Ok(Verb::Rot)
     } else if word == b"errors".as_slice() {
         Ok(Verb::Errors)
+    } else if word == b"list".as_slice() {
+        Ok(Verb::List)
     } else if word == b"status".as_slice() {
         Ok(Verb::Status)
     } else {

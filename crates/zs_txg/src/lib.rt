@@ -6,6 +6,8 @@
 //! there in a list whose room is reserved.
 //! Promise: the last staging of a key stands, `get` and `entry_after` answer what stands, `sectors` is the sum over
 //! what stands, and where room was reserved `stage` is not refused. After a refusal nothing has changed.
+//! Work: `entries_of` begins at its dataset's first entry and ends at the next dataset's, so a walk over all datasets looks
+//! at each staged entry once.
 //!
 //! `zs_core` stages into it and queues, `zs_objset` makes its blocks' bytes at the sync. To change what is
 //! staged of a block see `staged`, to add a task see `task`, to change how it is kept see `txg`.

@@ -9,4 +9,4 @@ pub returns : goal.returns
 returns c =
     gives_itself _ _
     (c.found_at.ensures ∙ ap (at_line c.args.number) c.command_of_words-command.ensures
-    ∙ text_commands c.args.number c.args.before c.args.line.now _ (search (rules, tests)) (ap (map (λ w. w.now)) c.deref.ensures.value ∙ c.in_ok-words.ensures))
+    ∙ text_commands c.args.number c.args.begun c.args.line.now _ (search (rules, tests)) (ap (map (λ w. w.now)) c.deref.ensures.value ∙ c.in_ok-words.ensures))
