@@ -1,6 +1,8 @@
 -- The record of an object is staged with the blocks above it, and what is staged stays formed and placed.
 use Rattle.std.specs.Prelude.{◌≡◌, ◌≢◌, ◌≤◌, ◌+◌, ◌==◌, ℕ, Bool, true, false, cond, List, is_some, Option, Some, None, refl, if◌then◌else◌}
 use Rattle.std.specs.Ordering.{is_eq}
+use Rattle.std.specs.declared.cmp.Ordering.{Ordering}
+use Rattle.std.specs.declared.cmp.Ordering.TheVariants.{Less, Equal, Greater}
 use Rattle.std.proofs.Common.{sym, ◌∙◌, ap, subst, arith}
 use Rattle.std.proofs.lemmas.Bool.{true≢false, eqb-true, eq-eqb, false_from_ne_true}
 use Rattle.std.proofs.lemmas.Cmp.{tied_itself}
@@ -10,22 +12,25 @@ use Rattle.zs_ids.specs.declared.block.Place.{Place}
 use Rattle.zs_ids.specs.declared.dataset.DsId.{DsId}
 use Rattle.zs_ids.specs.Key.{key_cmp, root_key, dnode_key, record_key, parent_of}
 use Rattle.zs_ids.specs.Blocks.{bp_at}
-use Rattle.zs_ids.specs.Graph.{Has}
+use Rattle.zs_ids.specs.Graph.{Has, Graph}
 use Rattle.zs_ids.specs.GraphValid.{record_sizes}
 use Rattle.zs_txg.specs.declared.staged.Staging.{Staging}
-use Rattle.zs_txg.specs.Txg.{Slot, slot_cmp, staged_at, put_staged}
+use Rattle.zs_txg.specs.Txg.{Slot, slot_cmp, staged_at, staged_for, put_staged}
 use Rattle.zs_txg.proofs.Entries.{lookup-insert_entry}
 use Rattle.zs_txg.proofs.Slots.{slot_total, same_slot, key_total}
+use Rattle.zs_graph.proofs.Keys.{key_equal}
 use Rattle.zs_machine.specs.Steps.{staged_once, IsStagedWith, KeepsPlace}
-use Rattle.zs_core.specs.Placed.{IsFormed, resized, AreFormed, AreStaged, AreBothPlaced, sector_at, next_after, with_root, after_root, with_above, after_above, staged_with, staged_again, place_or}
+use Rattle.zs_core.specs.Placed.{IsFormed, resized, AreFormed, AreStaged, sector_at, next_after, with_root, after_root, with_above, after_above, staged_with, staged_again, place_or}
 use Rattle.zs_core.specs.Placed.IsFormed.{root, dnodes, leaf}
+use Rattle.zs_core.specs.Datasets.{IsHeadsId}
 use Rattle.zs_core.proofs.Inserting.{at_some, at_none}
-use Rattle.zs_core.proofs.Applying.{same_key}
-use Rattle.zs_core.proofs.Placing.{is_equal, some_stays, staged_put, both_next, both_again}
+use Rattle.zs_core.proofs.Owned.{own_at}
+use Rattle.zs_core.proofs.Placing.{ArePlaced, placed_next, placed_again}
 
--- what is staged in the open transaction group is formed, and placed beside what is staged in a closed one
-abbrev pub AreReady : (ℕ → ℕ) → DsId → ℕ → ℕ → ℕ → List (Key × Bp) → List (Slot × Staging) → List (Slot × Staging) → Type 0
-AreReady size id start next end entries closed staged = AreStaged size id staged × AreBothPlaced start next end entries closed staged
+is_equal : (r : Ordering) → is_eq r ≡ true → r ≡ Equal
+is_equal Less e = absurd (true≢false (sym e))
+is_equal Equal e = refl
+is_equal Greater e = absurd (true≢false (sym e))
 
 abbrev pointers : ℕ → Staging
 pointers next = record { place = sector_at next; sectors = 8; fill = None }
@@ -40,16 +45,16 @@ just_staged staged slot what =
     subst (λ (f : Option Staging). is_some f ≡ true) (sym (lookup-insert_entry slot_total slot what slot staged)) (here_by (is_eq (slot_cmp slot slot)) (staged_at staged slot) what (ap is_eq (tied_itself slot_total slot)))
 
 -- a block of pointers is staged at the next sector, unless one is staged at its slot
-module _ (size : ℕ → ℕ) (id : DsId) (start next end : ℕ) (entries : List (Key × Bp)) (closed staged : List (Slot × Staging)) (key : Key) (formed : IsFormed size key 8) (above : (k : Key) → parent_of key 1 ≡ Some k → is_some (staged_at staged (id, k)) ≡ true) (ready : AreReady size id start next end entries closed staged) where
+module _ (g : Graph) (n start next : ℕ) (size : ℕ → ℕ) (id : DsId) (staged : List (Slot × Staging)) (is_head : IsHeadsId g id) (key : Key) (formed : IsFormed size key 8) (above : (k : Key) → parent_of key 1 ≡ Some k → is_some (staged_at staged (id, k)) ≡ true) (p : ArePlaced g n start next size id staged) where
   abbrev once_by : Bool → List (Slot × Staging)
   once_by b = if b then staged else put_staged staged (id, key) (pointers next)
 
-  ready_by : (b : Bool) → (if b then next else next + 8) ≤ end → AreReady size id start (if b then next else next + 8) end entries closed (once_by b)
-  ready_by true fits = ready
-  ready_by false fits = (staged_put size id staged ready.0 key (pointers next) formed (λ is. refl) above, both_next size id staged ready.0 key (pointers next) start next end entries closed ready.1 refl fits)
+  placed_by : (b : Bool) → ArePlaced g n start (if b then next else next + 8) size id (once_by b)
+  placed_by true = p
+  placed_by false = placed_next g n start next size id staged p is_head key (pointers next) (formed, λ is. refl, above) refl
 
-  pub ready_once : next_after staged (id, key) 8 next ≤ end → AreReady size id start (next_after staged (id, key) 8 next) end entries closed (staged_once staged (id, key) (sector_at next))
-  ready_once fits = ready_by (is_some (staged_at staged (id, key))) fits
+  pub placed_once : ArePlaced g n start (next_after staged (id, key) 8 next) size id (staged_once staged (id, key) (sector_at next))
+  placed_once = placed_by (is_some (staged_at staged (id, key)))
 
 -- a slot is staged once it is staged if need be, and another one that is staged stays
 pub is_once : (staged : List (Slot × Staging)) (slot : Slot) (place : Place) → is_some (staged_at (staged_once staged slot place) slot) ≡ true
@@ -58,13 +63,6 @@ is_once staged slot place = by (is_some (staged_at staged slot)) refl
     by : (b : Bool) → is_some (staged_at staged slot) ≡ b → is_some (staged_at (if b then staged else put_staged staged slot (record { place = place; sectors = 8; fill = None })) slot) ≡ true
     by true is = is
     by false is = just_staged staged slot _
-
-pub stays_once : (staged : List (Slot × Staging)) (slot at : Slot) (place : Place) → is_some (staged_at staged at) ≡ true → is_some (staged_at (staged_once staged slot place) at) ≡ true
-stays_once staged slot at place h = by (is_some (staged_at staged slot))
-  where
-    by : (b : Bool) → is_some (staged_at (if b then staged else put_staged staged slot (record { place = place; sectors = 8; fill = None })) at) ≡ true
-    by true = h
-    by false = some_stays staged slot at _ h
 
 none_above : (k : Key) → parent_of root_key 1 ≡ Some k → ⊥
 none_above k is = absurd (cc)
@@ -75,36 +73,33 @@ root_above object k is = cc
 dnode_above : (object : ℕ) (k : Key) → parent_of (record_key object 0) 1 ≡ Some k → dnode_key object ≡ k
 dnode_above object k is = cc
 
-module _ (size : ℕ → ℕ) (id : DsId) (start next end : ℕ) (entries : List (Key × Bp)) (closed staged : List (Slot × Staging)) (object : ℕ) (last : object ≤ 2047) (ready : AreReady size id start next end entries closed staged) where
-  below_end : after_above staged id object next ≤ end → after_root staged id next ≤ end
-  below_end fits = by (is_some (staged_at (with_root staged id next) (id, dnode_key object))) fits
-    where
-      by : (b : Bool) → (if b then after_root staged id next else after_root staged id next + 8) ≤ end → after_root staged id next ≤ end
-      by true h = h
-      by false h = omega (arith, h)
-
-  ready_root : after_root staged id next ≤ end → AreReady size id start (after_root staged id next) end entries closed (with_root staged id next)
-  ready_root fits = ready_once size id start next end entries closed staged root_key (root refl refl) (λ k is. absurd (none_above k is)) ready fits
+module _ (g : Graph) (n start next : ℕ) (size : ℕ → ℕ) (id : DsId) (staged : List (Slot × Staging)) (is_head : IsHeadsId g id) (object : ℕ) (last : object ≤ 2047) (p : ArePlaced g n start next size id staged) where
+  placed_root : ArePlaced g n start (after_root staged id next) size id (with_root staged id next)
+  placed_root = placed_once g n start next size id staged is_head root_key (root refl refl) (λ k is. absurd (none_above k is)) p
 
   -- the blocks above a record are staged
-  pub ready_above : after_above staged id object next ≤ end → AreReady size id start (after_above staged id object next) end entries closed (with_above staged id object next)
-  ready_above fits =
-      ready_once size id start (after_root staged id next) end entries closed (with_root staged id next) (dnode_key object) (dnodes object last refl refl) (λ k is. subst (λ (x : Key). is_some (staged_at (with_root staged id next) (id, x)) ≡ true) (root_above object k is) (is_once staged (id, root_key) (sector_at next))) (ready_root (below_end fits)) fits
+  pub placed_above : ArePlaced g n start (after_above staged id object next) size id (with_above staged id object next)
+  placed_above =
+      placed_once g n start (after_root staged id next) size id (with_root staged id next) is_head (dnode_key object) (dnodes object last refl refl)
+      (λ k is. subst (λ (x : Key). is_some (staged_at (with_root staged id next) (id, x)) ≡ true) (root_above object k is) (is_once staged (id, root_key) (sector_at next))) placed_root
 
   -- a record is staged for the first time in the group, with the blocks above it
-  pub write_staged : (sectors : ℕ) (fill : Option ℕ) → (fill ≡ None → sectors ≡ 8) → 1 ≤ object → sectors ≡ size object → after_above staged id object next + sectors ≤ end → AreReady size id start (after_above staged id object next + sectors) end entries closed (staged_with staged id object sectors fill next)
-  write_staged sectors fill eight first is fits =
+  pub write_staged : (sectors : ℕ) (fill : Option ℕ) → (fill ≡ None → sectors ≡ 8) → 1 ≤ object → sectors ≡ size object
+      → ArePlaced g n start (after_above staged id object next + sectors) size id (staged_with staged id object sectors fill next)
+  write_staged sectors fill eight first is =
       let what : Staging = record { place = sector_at (after_above staged id object next); sectors = sectors; fill = fill } in
-      let now : AreReady size id start (after_above staged id object next) end entries closed (with_above staged id object next) = ready_above (omega (arith, fits)) in
       let above : (k : Key) → parent_of (record_key object 0) 1 ≡ Some k → is_some (staged_at (with_above staged id object next) (id, k)) ≡ true = λ k up. subst (λ (x : Key). is_some (staged_at (with_above staged id object next) (id, x)) ≡ true) (dnode_above object k up) (is_once (with_root staged id next) (id, dnode_key object) (sector_at (after_root staged id next))) in
-      (staged_put size id (with_above staged id object next) now.0 (record_key object 0) what (leaf object first last refl is) eight above, both_next size id (with_above staged id object next) now.0 (record_key object 0) what start (after_above staged id object next) end entries closed now.1 refl fits)
+      placed_next g n start (after_above staged id object next) size id (with_above staged id object next) placed_above is_head (record_key object 0) what (leaf object first last refl is, eight, above) refl
 
 -- a block that is staged is staged again at its place, with another fill
-pub again_staged : (size : ℕ → ℕ) (id : DsId) (start next end : ℕ) (entries : List (Key × Bp)) (closed staged : List (Slot × Staging)) (key : Key) (old : Staging) (fill : Option ℕ) → (fill ≡ None → old.sectors ≡ 8) → AreReady size id start next end entries closed staged → staged_at staged (id, key) ≡ Some old → AreReady size id start next end entries closed (put_staged staged (id, key) (record { place = old.place; sectors = old.sectors; fill = fill }))
-again_staged size id start next end entries closed staged key old fill eight ready found =
-    let was : Has staged ((id, key), old) = at_some slot_cmp slot_total same_slot staged (id, key) old found in
+pub again_staged : (g : Graph) (n start next : ℕ) (size : ℕ → ℕ) (id : DsId) (staged : List (Slot × Staging)) → IsHeadsId g id → (key : Key) (old : Staging) (fill : Option ℕ)
+    → (fill ≡ None → old.sectors ≡ 8) → ArePlaced g n start next size id staged → staged_at staged (id, key) ≡ Some old
+    → ArePlaced g n start next size id (put_staged staged (id, key) (record { place = old.place; sectors = old.sectors; fill = fill }))
+again_staged g n start next size id staged is_head key old fill eight p found =
+    let was : Has (staged_for staged id) ((id, key), old) = at_some slot_cmp slot_total same_slot (staged_for staged id) (id, key) old (own_at staged id key ∙ found) in
     let what : Staging = record { place = old.place; sectors = old.sectors; fill = fill } in
-    (staged_put size id staged ready.0 key what (ready.0.formed ((id, key), old) was) eight (λ k up. ready.0.parents ((id, key), old) was k up), both_again size id staged ready.0 key what start next end entries closed ready.1 old found refl refl)
+    let above : (k : Key) → parent_of key 1 ≡ Some k → is_some (staged_at staged (id, k)) ≡ true = λ k up. subst (λ (f : Option Staging). is_some f ≡ true) (own_at staged id k) (p.own.parents ((id, key), old) was k up) in
+    placed_again g n start next size id staged p is_head key what (p.own.formed ((id, key), old) was, eight, above) old found refl refl
 
 -- the record of an object has the object's size
 record_formed : (size : ℕ → ℕ) (object n : ℕ) → IsFormed size (record_key object 0) n → (n ≡ size object) × (1 ≤ object) × (object ≤ 2047)
@@ -116,7 +111,7 @@ record_formed size object n formed = elim formed [
 
 pub size_live : (size : ℕ → ℕ) (n object : ℕ) (entries : List (Key × Bp)) (bp : Bp) → AreFormed size n entries → bp_at entries (record_key object 0) ≡ Some bp → (bp.sectors ≡ size object) × (1 ≤ object) × (object ≤ 2047)
 size_live size n object entries bp formed found =
-    record_formed size object bp.sectors (formed.each (record_key object 0, bp) (at_some key_cmp key_total same_key entries (record_key object 0) bp found)).formed
+    record_formed size object bp.sectors (formed.each (record_key object 0, bp) (at_some key_cmp key_total key_equal entries (record_key object 0) bp found)).formed
 
 pub size_staged : (size : ℕ → ℕ) (id : DsId) (object : ℕ) (staged : List (Slot × Staging)) (what : Staging) → AreStaged size id staged → staged_at staged (id, record_key object 0) ≡ Some what → (what.sectors ≡ size object) × (1 ≤ object) × (object ≤ 2047)
 size_staged size id object staged what s found =
@@ -130,14 +125,14 @@ resized_formed size object sectors key n other formed = elim formed [
   | leaf m from to k is ↦ leaf m from to k (is ∙ sym (ap (λ (b : Bool). if b then sectors else size m) (false_from_ne_true (m == object) (λ same. other (k ∙ ap (λ (x : ℕ). record_key x 0) (eqb-true m object same))))))
 ]
 
-size_set : (size : ℕ → ℕ) (object sectors : ℕ) → sectors ≡ resized size object sectors object
+pub size_set : (size : ℕ → ℕ) (object sectors : ℕ) → sectors ≡ resized size object sectors object
 size_set size object sectors = sym (ap (λ (b : Bool). if b then sectors else size object) (eq-eqb object object refl))
 
 pub resized_entries : (size : ℕ → ℕ) (object sectors n : ℕ) (entries : List (Key × Bp)) → Has record_sizes sectors → bp_at entries (record_key object 0) ≡ None → AreFormed size n entries → AreFormed (resized size object sectors) n entries
 resized_entries size object sectors n entries is_size none formed = record {
   sizes = λ m. by m (m == object);
   in_order = formed.in_order;
-  each = λ e h. let w = formed.each e h in record { formed = resized_formed size object sectors e.0 e.1.sectors (at_none key_cmp key_total same_key entries (record_key object 0) e none h) w.formed; height = w.height; single = w.single; unused = w.unused; born = w.born };
+  each = λ e h. let w = formed.each e h in record { formed = resized_formed size object sectors e.0 e.1.sectors (at_none key_cmp key_total key_equal entries (record_key object 0) e none h) w.formed; height = w.height; single = w.single; unused = w.unused; born = w.born };
   parents = formed.parents;
 }
   where
@@ -153,11 +148,6 @@ resized_staged size object sectors id staged none s = record {
   sized = s.sized;
   parents = s.parents;
 }
-
--- the record of a new object is staged, with the blocks above it
-pub make_staged : (size : ℕ → ℕ) (id : DsId) (start next end : ℕ) (entries : List (Key × Bp)) (closed staged : List (Slot × Staging)) (object sectors : ℕ) (fill : Option ℕ) → (fill ≡ None → sectors ≡ 8) → 1 ≤ object → object ≤ 2047 → staged_at staged (id, record_key object 0) ≡ None → after_above staged id object next + sectors ≤ end → AreReady size id start next end entries closed staged → AreReady (resized size object sectors) id start (after_above staged id object next + sectors) end entries closed (staged_with staged id object sectors fill next)
-make_staged size id start next end entries closed staged object sectors fill eight first last none fits ready =
-    write_staged (resized size object sectors) id start next end entries closed staged object last (resized_staged size object sectors id staged none ready.0, ready.1) sectors fill eight first (size_set size object sectors) fits
 
 -- staging the root changes nothing at another slot
 other_once : (staged : List (Slot × Staging)) (slot at : Slot) (place : Place) → at ≢ slot → staged_at (staged_once staged slot place) at ≡ staged_at staged at

@@ -13,7 +13,6 @@ use Rattle.zs_core.specs.declared.present.Present.TheInside.{Inside}
 use Rattle.zs_core.specs.Kept.{Facts, born_by}
 use Rattle.zs_core.specs.Placed.{room_of}
 use Rattle.zs_machine.specs.Shapes.{data_start}
-use Rattle.zs_core.specs.View.{graph_of}
 
 -- the limit, the width and the end of the scope of a scan are those of another
 pub record IsAlike (old new : ScanView) : Type 0 where
@@ -22,7 +21,7 @@ pub record IsAlike (old new : ScanView) : Type 0 where
   pub max : new.scope.max ≡ old.scope.max
 
 -- another scan that is the datasets' own too, with the same limit, width and end of its scope, may stand in the scan's place
-pub with_scan : (p : Inside) (v : ScanView) → Facts p → IsAlike p.scan v → ((start blocks : ℕ) → IsScanOf (room_of start p.end_sector blocks) (graph_of p.heads.head) (born_by p.applied) (p.applied + 1) p.scan → IsScanOf (room_of start p.end_sector blocks) (graph_of p.heads.head) (born_by p.applied) (p.applied + 1) v) → Facts (record p { scan = v })
+pub with_scan : (p : Inside) (v : ScanView) → Facts p → IsAlike p.scan v → ((start blocks : ℕ) → IsScanOf (room_of start p.end_sector blocks) p.graph.sets (born_by p.applied) (p.applied + 1) p.scan → IsScanOf (room_of start p.end_sector blocks) p.graph.sets (born_by p.applied) (p.applied + 1) v) → Facts (record p { scan = v })
 with_scan p v f same keeps = record {
   shape = f.shape;
   online = f.online;
@@ -30,7 +29,9 @@ with_scan p v f same keeps = record {
   width = same.width ∙ f.width;
   begun = f.begun;
   space = f.space;
-  head = f.head;
+  datasets = f.datasets;
+  one_staged = f.one_staged;
+  since = f.since;
   blocks = f.blocks;
   scan = keeps (data_start p.shape.blocks) f.blocks f.scan;
   range = let low : p.scan.scope.max ≤ p.applied + 1 = f.range in let is : v.scope.max ≡ p.scan.scope.max = same.max in omega (arith, low, is);

@@ -1,5 +1,6 @@
 pub mod Status
 pub mod Placed
+pub mod Datasets
 pub mod Freeing
 pub mod View
 pub mod Kept
@@ -9,6 +10,8 @@ pub mod Safe
 pub mod Judging
 pub mod Ending
 pub mod Reading
+pub mod Staging
 pub mod Synced
+pub mod Applying
 pub mod FlightTold
 pub mod Calls

@@ -1,37 +1,24 @@
--- The head of a pool in which an object has one record: how its blocks are formed, what may be staged for it, and where
--- all of these lie.
+-- A dataset of a pool in which an object has one record: how its blocks are formed, and what may be staged for it, where.
 use Rattle.std.specs.Prelude.{◌≡◌, ◌<◌, ◌≤◌, ◌+◌, ◌==◌, ℕ, true, is_some, drop, if◌then◌else◌, List, [], ◌∷◌, Option, Some, None}
 use Rattle.zs_ids.specs.declared.key.Key.{Key}
 use Rattle.zs_ids.specs.declared.limits.TheConstants.{OBJECTS}
 use Rattle.zs_ids.specs.declared.block.Bp.{Bp}
-use Rattle.zs_ids.specs.declared.block.Piece.{Piece}
 use Rattle.zs_ids.specs.declared.block.Place.{Place}
 use Rattle.zs_ids.specs.declared.dataset.DsId.{DsId}
-use Rattle.zs_ids.specs.declared.dataset.Name.{Name}
-use Rattle.zs_ids.specs.declared.dataset.TheConstants.DsId.{ORIGIN}
-use Rattle.zs_ids.specs.declared.dataset.TheConstants.Name.{EMPTY}
 use Rattle.zs_ids.specs.Key.{root_key, dnode_key, record_key, parent_of}
 use Rattle.zs_ids.specs.Blocks.{IsInKeyOrder}
-use Rattle.zs_ids.specs.Graph.{Dataset, Graph, Has, pieces_of}
-use Rattle.zs_ids.specs.GraphValid.{Room, Overlap, record_sizes, origin}
+use Rattle.zs_ids.specs.Graph.{Has}
+use Rattle.zs_ids.specs.GraphValid.{Room, record_sizes}
 use Rattle.zs_txg.specs.declared.staged.Staging.{Staging}
 use Rattle.zs_txg.specs.Txg.{Slot, staged_at, put_staged, IsInSlotOrder}
 use Rattle.zs_objset.specs.Staged.{level_of, no_place}
 use Rattle.zs_machine.specs.Steps.{staged_once}
 
--- a head that stands on the origin
-abbrev pub head_of : DsId → Name → List (Key × Bp) → Dataset
-head_of id name entries = record { id = id; head = true; owner = name; label = EMPTY; parent = Some ORIGIN; creation = 0; entries = entries }
-
--- the datasets of a pool that has this one head
-abbrev pub headed : DsId → Name → List (Key × Bp) → Graph
-headed id name entries = origin ∷ head_of id name entries ∷ []
-
 -- the room of a pool of one mirror: its space from `start` to `end`, for that many blocks
 abbrev pub room_of : ℕ → ℕ → ℕ → Room
 room_of start end blocks = record { start = start; ends = end ∷ []; blocks = blocks }
 
--- a block of the head by its key and its size in sectors, with the record size of each object: the root, a block of
+-- a block of a dataset by its key and its size in sectors, with the record size of each object: the root, a block of
 -- dnodes, or the record of an object
 pub data IsFormed (size : ℕ → ℕ) (key : Key) (sectors : ℕ) : Type 0 where
   root : key ≡ root_key → sectors ≡ 8 → IsFormed size key sectors
@@ -42,7 +29,7 @@ pub data IsFormed (size : ℕ → ℕ) (key : Key) (sectors : ℕ) : Type 0 wher
 abbrev pub resized : (ℕ → ℕ) → ℕ → ℕ → ℕ → ℕ
 resized size object sectors n = if n == object then sectors else size n
 
--- an entry is a block of the head with one place, born by n
+-- an entry is a block of a dataset with one place, born by n
 pub record IsWhole (size : ℕ → ℕ) (n : ℕ) (e : Key × Bp) : Type 0 where
   pub formed : IsFormed size e.0 e.1.sectors
   pub height : e.1.level ≡ level_of e.0
@@ -57,16 +44,15 @@ pub record HasAt (entries : List (Key × Bp)) (key : Key) (birth : ℕ) : Type 0
   pub is_key : entry.0 ≡ key
   pub later : birth ≤ entry.1.birth
 
--- the entries of the head: blocks in order of key, each but the root below its parent block, which is not born before
--- it
+-- the entries of a dataset: blocks in order of key, each but the root below its parent block, which is not born before it
 pub record AreFormed (size : ℕ → ℕ) (n : ℕ) (entries : List (Key × Bp)) : Type 0 where
   pub sizes : (object : ℕ) → Has record_sizes (size object)
   pub in_order : IsInKeyOrder entries
   pub each : (e : Key × Bp) → Has entries e → IsWhole size n e
   pub parents : (e : Key × Bp) → Has entries e → (k : Key) → parent_of e.0 1 ≡ Some k → HasAt entries k e.1.birth
 
--- what is staged in a transaction group: blocks of the head in order of key, each but the root with its parent block;
--- one of pointers, which has no fill, has eight sectors
+-- what is staged for a dataset: blocks in order of key, each but the root with its parent block; one of pointers, which has no
+-- fill, has eight sectors
 pub record AreStaged (size : ℕ → ℕ) (id : DsId) (staged : List (Slot × Staging)) : Type 0 where
   pub in_order : IsInSlotOrder staged
   pub for_head : (e : Slot × Staging) → Has staged e → e.0.0 ≡ id
@@ -85,25 +71,6 @@ pub record LiesBetween (start next : ℕ) (place : Place) (sectors : ℕ) : Type
   pub mirror : place.vdev ≡ 0
   pub from : start ≤ place.sector
   pub to : place.sector + sectors ≤ next
-
--- the entries of the head and what is staged lie in the space that was handed out, from `start` to `next`, and no two
--- of them share a sector
-pub record ArePlaced (start next end : ℕ) (entries : List (Key × Bp)) (staged : List (Slot × Staging)) : Type 0 where
-  pub begun : start ≤ next
-  pub in_space : next ≤ end
-  pub live : (e : Key × Bp) → Has entries e → (p : Piece) → Has (pieces_of e.1) p → LiesBetween start next p.place e.1.sectors
-  pub new : (e : Slot × Staging) → Has staged e → LiesBetween start next e.1.place e.1.sectors
-  pub live_apart : (e f : Key × Bp) → Has entries e → Has entries f → Overlap e.1 f.1 → e.0 ≡ f.0
-  pub new_apart : (e f : Slot × Staging) → Has staged e → Has staged f → Meet e.1.place e.1.sectors f.1.place f.1.sectors → e.0 ≡ f.0
-  pub between : (e : Slot × Staging) (f : Key × Bp) → Has staged e → Has entries f → (p : Piece) → Has (pieces_of f.1) p
-      → Meet e.1.place e.1.sectors p.place f.1.sectors → ⊥
-
--- so lie the head, what is staged in the transaction group that is closed, and what is staged in the open one; and what
--- is staged in one shares no sector with what is staged in the other
-pub record AreBothPlaced (start next end : ℕ) (entries : List (Key × Bp)) (closed staged : List (Slot × Staging)) : Type 0 where
-  pub earlier : ArePlaced start next end entries closed
-  pub later : ArePlaced start next end entries staged
-  pub beside : (e f : Slot × Staging) → Has closed e → Has staged f → Meet f.1.place f.1.sectors e.1.place e.1.sectors → ⊥
 
 -- a place on the first mirror
 abbrev pub sector_at : ℕ → Place

@@ -1,10 +1,14 @@
 -- How a read began, as its event tells it.
-use Rattle.std.specs.Prelude.{◌≡◌, ℕ, ◌≤◌, ◌<◌, length, List, ◌∷◌, ◌++◌, Option, Some, None}
+use Rattle.std.specs.Prelude.{◌≡◌, ℕ, ◌≤◌, ◌<◌, length, List, ◌∷◌, ◌++◌, Option, Some, None, Result, Ok, Err}
 use Rattle.std.specs.Int.{from_be_bytes, w64}
 use Rattle.zs_ids.specs.declared.block.Bp.{Bp}
-use Rattle.zs_ids.specs.Graph.{Has}
+use Rattle.zs_ids.specs.declared.dataset.DsId.{DsId}
+use Rattle.zs_ids.specs.declared.dataset.DsName.{DsName}
+use Rattle.zs_ids.specs.Graph.{Has, Dataset}
+use Rattle.zs_ids.specs.GraphTree.{dataset_at, dataset_named}
 use Rattle.zs_ids.specs.GraphValid.{Room}
 use Rattle.zs_scan.specs.Covered.{IsInRoom}
+use Rattle.zs_script.specs.declared.refusal.Refusal.{Refusal}
 use Rattle.zs_script.specs.declared.refusal.Refusal.TheVariants.{ReadLost}
 use Rattle.zs_script.specs.declared.reply.Reply.{Reply}
 use Rattle.zs_script.specs.declared.reply.Reply.TheVariants as reply
@@ -12,6 +16,7 @@ use Rattle.zs_sum.specs.Sum.{sha256}
 use Rattle.zs_machine.specs.declared.event.ReadPlan.{ReadPlan}
 use Rattle.zs_machine.specs.declared.event.OpenRead.{OpenRead}
 use Rattle.zs_machine.specs.declared.event.ReadPlan.TheVariants as plan
+use Rattle.zs_machine.specs.Machine.{PoolState}
 use Rattle.zs_core.specs.declared.read.Begun.{Begun}
 use Rattle.zs_core.specs.declared.read.Begun.TheVariants as begun
 
@@ -96,3 +101,9 @@ IsBegunInRoom room (Some p) = IsPlanInRoom room p
 abbrev pub IsPlacedAt : Option Bp → Type 0
 IsPlacedAt None = Unit {0}
 IsPlacedAt (Some bp) = 0 < length bp.places
+
+-- a read that is not refused reads the dataset of the name; another one has its refusal
+abbrev pub ReadsOr : Option Refusal → PoolState → DsName → Result DsId Refusal → Type 0
+ReadsOr refusal s name (Ok id) =
+    (refusal ≡ None) × (d : Dataset) × (dataset_named s.graph name ≡ Some d) × (dataset_at s.graph id ≡ Some d)
+ReadsOr refusal s name (Err why) = refusal ≡ Some why

@@ -1,26 +1,84 @@
--- What stays true while the tasks of a transaction group run.
-use Rattle.std.specs.Prelude.{◌≡◌, ◌⊎◌, ℕ, ◌≤◌, true, false, is_some, List, [], Option}
-use Rattle.zs_txg.specs.declared.staged.Staging.{Staging}
-use Rattle.zs_txg.specs.Txg.{Slot}
+-- What tasks make of the scan, and what stays true while they run.
+use Rattle.std.specs.Prelude.{◌≡◌, ℕ, List, [], ◌∷◌, Option, Some, None}
+use Rattle.zs_ids.specs.declared.block.Item.{Item}
+use Rattle.zs_ids.specs.declared.dataset.DsId.{DsId}
+use Rattle.zs_ids.specs.Graph.{Dataset, Graph, Has}
+use Rattle.zs_ids.specs.GraphTree.{dataset_named}
+use Rattle.zs_ids.specs.GraphValid.{Room}
+use Rattle.zs_ids.specs.GraphChange.{MayDestroy, destroyed}
+use Rattle.zs_phys.specs.Handlers.{Event, Handled, Event as events}
+use Rattle.zs_txg.specs.declared.task.Task.{Task}
+use Rattle.zs_txg.specs.declared.task.Task.TheVariants as task
 use Rattle.zs_scan.specs.View.{ScanView}
 use Rattle.zs_scan.specs.Covered.{IsScanOf}
-use Rattle.zs_scan.specs.Steps.{is_busy, after_start}
-use Rattle.zs_core.specs.declared.parts.Head.{Head}
-use Rattle.zs_core.specs.Placed.{room_of}
-use Rattle.zs_core.specs.View.{graph_of, entries_in}
-use Rattle.zs_core.specs.Kept.{IsHeadKept}
+use Rattle.zs_scan.specs.Steps.{after_start}
+use Rattle.zs_machine.specs.Born.{AreBornItems}
+use Rattle.zs_machine.specs.Machine.{Data}
+use Rattle.zs_machine.specs.Replies.{after_run, head_named, task_refusal}
+use Rattle.zs_graph.specs.View.{GraphView}
+use Rattle.zs_graph.specs.Made.{IsUpTo}
+use Rattle.zs_script.specs.declared.refusal.Refusal.{Refusal}
+use Rattle.zs_core.specs.View.{data_of}
+use Rattle.zs_core.specs.Datasets.{AreDatasets}
+use Rattle.zs_core.specs.Freeing.{HasLost}
 
--- the tasks of the transaction group t left the scan as it was, or one of them started a scrub or resumed a paused one
-abbrev pub HasStarted : ℕ → ScanView → ScanView → Type 0
-HasStarted t old new = (new ≡ old) ⊎ ((is_busy old ≡ false) × (new ≡ record (after_start t 0 old) { room = new.room }))
+-- the walk's state took an event of the datasets, and all else of the scan is as it was
+pub record HasHandled (old : ScanView) (e : Event) (new : ScanView) : Type 0 where
+  pub run : Handled old.run e new.run
+  pub rest : new ≡ record old { run = new.run }
 
--- while tasks of the transaction group t run, where the blocks are born by t: the head and what is staged for it stay
--- kept, a head that there was stays as it was, the scan stays the datasets' own, and at most a scrub starts or is resumed
-pub record RunsOn (t : ℕ) (old_head : Option Head) (old : ScanView) (head : Option Head) (new : ScanView) : Type 0 where
-  pub kept : (start next end : ℕ) (staged : List (Slot × Staging)) → 1 ≤ t → start ≤ next → next ≤ end
-      → IsHeadKept old_head t start next end [] staged → IsHeadKept head t start next end [] staged
-  pub scanned : (start end blocks : ℕ) → 1 ≤ t
-      → IsScanOf (room_of start end blocks) (graph_of old_head) t t old → IsScanOf (room_of start end blocks) (graph_of head) t t new
-  pub same : is_some old_head ≡ true → head ≡ old_head
-  pub entries : entries_in head ≡ entries_in old_head
-  pub ran : HasStarted t old new
+-- a dataset was destroyed: bookmark and queue of the walk left it for its child, where it has one, and what is not live any
+-- more was freed
+pub record HasSeenDestroyed (g : Graph) (gone : Dataset) (old new : ScanView) : Type 0 where
+  pub next : Option DsId
+  pub only : MayDestroy g gone next
+  pub moved : ScanView
+  pub handled : HasHandled old (events.destroyed gone.id next) moved
+  pub lost : HasLost g (destroyed g gone) moved new
+
+-- what a task that is not refused makes of the scan
+abbrev pub HasSeen : ℕ → Data → Task → ScanView → ScanView → Type 0
+HasSeen txg d (task.Fs name) old new = new ≡ old
+HasSeen txg d (task.Snap head label) old new =
+    (h : Dataset) → head_named d.graph head ≡ Some h → HasHandled old (events.snapshot_taken h.id (record { 0 = d.next_id })) new
+HasSeen txg d (task.Clone ds name) old new = new ≡ old
+HasSeen txg d (task.Destroy ds) old new = (gone : Dataset) → dataset_named d.graph ds ≡ Some gone → HasSeenDestroyed d.graph gone old new
+HasSeen txg d (task.Swap first second) old new =
+    (a b : Dataset) → head_named d.graph first ≡ Some a → head_named d.graph second ≡ Some b → HasHandled old (events.swapped a.id b.id) new
+HasSeen txg d task.Scrub old new = new ≡ record (after_start txg 0 old) { room = new.room }
+
+-- what a task makes of the scan: a refused one leaves it
+abbrev pub HasRun : ℕ → Data → Task → ScanView → ScanView → Type 0
+HasRun txg d t old new = has_run (task_refusal txg d t)
+  where
+    has_run : Option Refusal → Type 0
+    has_run None = HasSeen txg d t old new
+    has_run (Some why) = new ≡ old
+
+-- what a list of tasks makes of the scan, one after another
+abbrev pub HaveRun : ℕ → Data → List (ℕ × Task) → ScanView → ScanView → Type 0
+HaveRun txg d [] old new = new ≡ old
+HaveRun txg d (t ∷ ts) old new = (mid : ScanView) × HasRun txg d t.1 old mid × HaveRun txg (after_run txg d t.1) ts mid new
+
+-- a task ran, and this is why it was refused, if it was: what it made of the datasets and the scan
+pub record RanTask (txg : ℕ) (t : Task)
+    (old_graph : GraphView) (old : ScanView) (old_saved : ℕ) (why : Option Refusal) (graph : GraphView) (new : ScanView) (saved : ℕ) : Type 0 where
+  pub answer : why ≡ task_refusal txg (data_of old_graph old old_saved) t
+  pub after : data_of graph new saved ≡ after_run txg (data_of old_graph old old_saved) t
+  pub seen : HasRun txg (data_of old_graph old old_saved) t old new
+
+-- no part of a sync changes how many pieces of a scan may wait, how many copies a block has, or what is in flight
+pub record KeepsRest (old new : ScanView) : Type 0 where
+  pub limit : new.limit ≡ old.limit
+  pub width : new.scope.width ≡ old.scope.width
+  pub flight : new.flight ≡ old.flight
+
+-- while tasks of the transaction group t run, where the blocks are born by t and nothing is staged: the datasets stay formed
+-- and lie where they did; the scan stays their own; and the items are those of what is born in t and live, none of which is new
+pub record RunsOn (t : ℕ) (old_graph : Graph) (old : ScanView) (old_items : List Item) (graph : Graph) (new : ScanView) (items : List Item) : Type 0 where
+  pub kept : (start next : ℕ) → AreDatasets old_graph t start next [] → AreDatasets graph t start next []
+  pub up_to : IsUpTo old_graph t → IsUpTo graph t
+  pub scanned : (room : Room) → IsScanOf room old_graph t t old → IsScanOf room graph t t new
+  pub born : AreBornItems old_graph t old_items → AreBornItems graph t items
+  pub fewer : (i : Item) → Has items i → Has old_items i
+  pub rest : KeepsRest old new

@@ -8,6 +8,7 @@ use Rattle.zs_script.specs.declared.command.Command.TheVariants as command
 use Rattle.zs_script.specs.declared.reply.Reply.{Reply}
 use Rattle.zs_script.specs.declared.reply.Reply.TheVariants as reply
 use Rattle.zs_machine.specs.Machine.{record_sectors}
+use Rattle.zs_machine.specs.Steps.{IsHalted}
 use Rattle.zs_ids.specs.GraphTree.{dataset_named}
 use Rattle.zs_machine.specs.Replies.{make_refusal, write_refusal}
 use Rattle.zs_core.specs.Kept.{IsFullExactly, born_by, sectors_to_stage}
@@ -35,6 +36,14 @@ pub record IsSafe (v : CoreView) : Type 0 where
   pub scanned : IsScanOf (room_in v.shape v.end_sector blocks) v.state.graph (born_by v.state.applied) (v.state.applied + 1) v.scan
   pub orderly : IsOrderly v.scan
   pub limit : v.scan.limit ≡ v.shape.limit
+
+-- a pool was suspended because memory was wanting in its sync; it has its shape, its space and its batches in flight still
+pub record IsHaltedCore (old new : CoreView) : Type 0 where
+  pub state : IsHalted old.state new.state
+  pub shape : new.shape ≡ old.shape
+  pub next_sector : new.next_sector ≡ old.next_sector
+  pub end_sector : new.end_sector ≡ old.end_sector
+  pub flight : new.scan.flight ≡ old.scan.flight
 
 -- a `make` or `write` is refused for want of space exactly where its blocks do not end inside the space
 abbrev pub IsFullFor : CoreView → Command → Reply → Type 0

@@ -1,9 +1,10 @@
 -- What `status` tells of a pool.
 use Rattle.std.specs.Prelude.{if◌then◌else◌, map, filter, length, Option, Some, None}
+use Rattle.zs_ids.specs.declared.dataset.DsId.{DsId}
 use Rattle.zs_ids.specs.declared.dataset.DsName.{DsName}
 use Rattle.zs_ids.specs.declared.dataset.TheConstants.Name.{EMPTY}
 use Rattle.zs_ids.specs.Graph.{Dataset, Graph}
-use Rattle.zs_ids.specs.GraphTree.{dataset_at}
+use Rattle.zs_ids.specs.GraphTree.{created, dataset_at, entries_of}
 use Rattle.zs_ledger.specs.Entry.{has_error}
 use Rattle.zs_phys.specs.declared.phys.Phys.{Phys}
 use Rattle.zs_phys.specs.declared.phys.At.{At}
@@ -12,6 +13,7 @@ use Rattle.zs_phys.specs.declared.todos.Todo.{Todo}
 use Rattle.zs_walk.specs.Walking.{runs}
 use Rattle.zs_scan.specs.View.{ScanView, is_flying}
 use Rattle.zs_script.specs.declared.refusal.Refusal.TheVariants.{Suspended}
+use Rattle.zs_script.specs.declared.reply.Listed.{Listed}
 use Rattle.zs_script.specs.declared.reply.Reply.{Reply}
 use Rattle.zs_script.specs.declared.reply.Reply.TheVariants as reply
 use Rattle.zs_script.specs.declared.reply.ScanState.{ScanState as StateWord}
@@ -27,6 +29,10 @@ use Rattle.zs_machine.specs.Status.{counted, kind_word, state_word}
 abbrev pub name_in : Option Dataset → DsName
 name_in None = record { owner = EMPTY; label = EMPTY }
 name_in (Some d) = record { owner = d.owner; label = d.label }
+
+-- what `list` tells of the dataset with an id
+abbrev pub listed_at : Graph → DsId → Listed
+listed_at g id = record { name = name_in (dataset_at g id); creation = created (dataset_at g id); blocks = counted (length (entries_of (dataset_at g id))) }
 
 -- where the walk stands
 abbrev pub place_of : Graph → Phys → At → WalkPlace

@@ -1,88 +1,104 @@
-//! The end of a sync's data: the blocks are put over the head's own, the tasks run, and the scan may come to its
-//! end.
+//! The end of a sync's data: the blocks are put over the heads' own, the tasks run, and the scan may come to its end.
 
-ghost use Rattle.std.specs.Prelude.{◌≡◌, [], List, IfOk, OnOk, OnErr, map, true, false};
-ghost use Rattle.std.specs.List.Sorted.{IsSortedByKey};
-ghost use Rattle.zs_ids.specs.Piece.{piece_cmp};
-ghost use Rattle.zs_scan.specs.Walks.{item_of};
-ghost use Rattle.zs_ids.specs.declared.block.Piece.{Piece};
+ghost use Rattle.std.specs.Prelude.{◌≡◌, ◌≢◌, [], None, IfOk, OnOk, OnErr, true, false};
+ghost use Rattle.zs_graph.specs.Made.{MayPutAt};
+ghost use Rattle.zs_graph.specs.Refusals.{apply_refusal};
 ghost use Rattle.zs_scan.specs.Steps.{IsComplete};
-ghost use Rattle.zs_scan.specs.Kept.{IsOrderly};
-ghost use Rattle.zs_machine.specs.Steps.{all_replaced, DataStep};
-ghost use Rattle.zs_core.specs.Kept.{IsPutIn};
+ghost use Rattle.zs_machine.specs.Steps.{DataStep};
+ghost use Rattle.zs_core.specs.Applying.{BringForth, HasApplied, HasPut, IsReady, IsTended, PutsOwn, Space, space_in};
 ghost use Rattle.zs_core.specs.Ending.{EndsWith};
-ghost use Rattle.zs_core.specs.Synced.{AreGone, IsSynced, AreItemsOf};
-ghost use Rattle.zs_core.specs.Freeing.{FreesAll, replaced_in};
+ghost use Rattle.zs_core.specs.Synced.{AreItemsOf, IsSynced};
+ghost use Rattle.zs_core.specs.Running.{KeepsRest};
+ghost use Rattle.zs_core.specs.Safe.{IsHaltedCore};
 
-use crate::freeing::free_replaced;
-use crate::heads::Heads;
-use crate::parts::Head;
+use crate::born::items_of;
+use crate::parts::{Changes, Closed};
 use crate::present::Present;
 use crate::tasks::run_tasks;
 use std::alloc::{AllocError, Global};
+use std::mem;
 use zs_flat::Flat;
-use zs_ids::{Blocks, Boxed, Bp, Item, Key, Seq};
+use zs_graph::{Graph, GraphFault};
+use zs_ids::{Boxed, Item, Seq};
 use zs_machine::Stage;
-use zs_scan::{Scan, item_of};
+use zs_scan::Scan;
+use zs_scan::laws::apply_law;
+use zs_script::Refusal;
+use zs_txg::OpenTxg;
 
-/// Puts entries over those of a map, one after another.
-fn put_changes(map: &mut Flat, changes: &[(Key, Bp)]) -> Result<(), AllocError>
-    ensures { OnOk result (map.new.map.entries ≡ all_replaced map.old.map.entries changes.now) }
+/// Puts the blocks that are staged for a dataset over its own. What is not live any more is freed. After want of memory nothing
+/// has changed.
+fn put_own(
+    t: u64,
+    own: &Changes,
+    graph: &mut Graph<Flat>,
+    scan: &mut Scan,
+) -> Result<(), AllocError>
+    requires may { own.now.blocks.items ≢ [] → MayPutAt graph.old.sets own.now.ds own.now.blocks.items t }
+    requires is_head { own.now.blocks.items ≢ [] → apply_refusal graph.old own.now.ds ≡ None }
+    ensures ok { OnOk result (PutsOwn t own.now graph.old scan.old graph.new scan.new) }
+    ensures err { OnErr result ((graph.new ≡ graph.old) × (scan.new ≡ scan.old)) }
 {
-    for change in changes {
-        map.replace(change.0, change.1)?;
+    if own.blocks.is_empty() {
+        return Ok(());
+    }
+    match graph.apply(own.ds, &own.blocks, t) {
+        Ok(freed) => {
+            apply_law();
+            scan.freed_all(freed.items.as_slice());
+            Ok(())
+        }
+        Err(GraphFault::Memory) => Err(AllocError),
+        Err(_) => unreachable!(),
+    }
+}
+
+/// Puts the blocks that are staged for the datasets over their own, dataset after dataset. After want of memory some datasets
+/// have theirs.
+fn put_all(
+    txg: &OpenTxg,
+    changes: &[Changes],
+    graph: &mut Graph<Flat>,
+    scan: &mut Scan,
+) -> Result<(), AllocError>
+    ghost space: { Space }
+    requires ready { IsReady space txg.now changes.now graph.old.sets scan.old }
+    ensures ok { OnOk result (HasPut txg.now graph.old scan.old graph.new scan.new) }
+    ensures born { OnOk result (BringForth changes.now txg.now.txg graph.new.sets) }
+    ensures tended { IsTended space txg.now.txg graph.new.sets scan.new }
+    ensures rest { KeepsRest scan.old scan.new }
+{
+    let t = txg.txg();
+    for own in changes {
+        put_own(t, own, graph, scan)?;
     }
     Ok(())
 }
 
-/// Puts entries over those of the head. The pieces that stood at their keys are freed: none of them waits or flies then. The
-/// new map is made beside the old one, so that after want of memory nothing has changed.
-fn put_in(heads: &mut Heads, changes: &[(Key, Bp)], scan: &mut Scan) -> Result<(), AllocError>
-    ensures put { OnOk result (IsPutIn heads.old.head changes.now heads.new.head) }
-    ensures freed { OnOk result (FreesAll (replaced_in heads.old.head changes.now) scan.old scan.new) }
-    ensures orderly { IsOrderly scan.old }
-    ensures err { OnErr result ((heads.new ≡ heads.old) × (scan.new ≡ scan.old)) }
+/// Applies a closed transaction group and runs its tasks, whose refusals are put into the list, which is empty. Answers the items
+/// of the pieces that are born in it and live, in order of place. After want of memory some of it is done.
+fn apply_group(
+    alloc: Global,
+    closed: &Closed,
+    graph: &mut Graph<Flat>,
+    scan: &mut Scan,
+    saved: &mut usize,
+    answers: &mut Vec<Option<Refusal>>,
+) -> Result<Boxed<Seq<Item>>, AllocError>
+    ghost space: { Space }
+    requires ready { IsReady space closed.now.txg closed.now.changes.items graph.old.sets scan.old }
+    requires empty { answers.old.items ≡ [] }
+    ensures ok { IfOk result
+        (λ items. HasApplied closed.now graph.old scan.old saved.old answers.new.items items graph.new scan.new saved.new) }
+    ensures tended { IsTended space closed.now.txg.txg graph.new.sets scan.new }
+    ensures rest { KeepsRest scan.old scan.new }
 {
-    scan.facts();
-    match &mut heads.head {
-        Some(head) => {
-            let mut map = head.map.copy()?;
-            put_changes(&mut map, changes)?;
-            free_replaced(scan, &head.map, changes);
-            head.map = map;
-            Ok(())
-        }
-        None => Ok(()),
-    }
-}
-
-/// The items of some pointers, in order of place.
-fn items_of(alloc: Global, changes: &[(Key, Bp)]) -> Result<Vec<Item>, AllocError>
-    ensures all { IfOk result (λ v. AreItemsOf changes.now v.items) }
-    ensures sorted { IfOk result (λ v. IsSortedByKey (λ i. i.piece) piece_cmp v.items) }
-{
-    let mut items = pointed_items(alloc, changes)?;
-    items.sort_unstable_by_key(|item| item.piece);
+    answers.reserve(closed.txg.tasks() as usize)?;
+    let mut items = items_of(alloc, &closed.changes)?;
+    put_all(&closed.txg, &closed.changes, graph, scan)?;
+    run_tasks(&closed.txg, graph, scan, saved, &mut items, answers)?;
+    let items = Boxed::new(alloc, Seq::from_vec(items))?;
     Ok(items)
-}
-
-/// The items of some pointers, in order of place, as an event has them.
-fn boxed_items(alloc: Global, changes: &[(Key, Bp)]) -> Result<Boxed<Seq<Item>>, AllocError>
-    ensures all { IfOk result (λ v. AreItemsOf changes.now v) }
-    ensures sorted { IfOk result (λ v. IsSortedByKey (λ i. i.piece) piece_cmp v) }
-{
-    let items = items_of(alloc, changes)?;
-    Boxed::new(alloc, Seq::from_vec(items))
-}
-
-/// The items of some pointers, in order of the pointers.
-fn pointed_items(alloc: Global, changes: &[(Key, Bp)]) -> Result<Vec<Item>, AllocError>
-    ensures { IfOk result (λ v. v.items ≡ map (λ c. item_of c.1) changes.now) }
-{
-    changes
-        .iter()
-        .map(|change| item_of(&change.1))
-        .collect(alloc)
 }
 
 /// Ends the scan where it is complete, and answers whether it did. All its entries are saved then.
@@ -98,40 +114,42 @@ fn end_scan(scan: &mut Scan, saved: &mut usize) -> bool
 
 impl Present {
     /// Applies the closed transaction group, and answers the items of the pieces that are born in it and live, in order of
-    /// place. The pieces that are not live any more are freed, and a task may start a scrub or resume a paused one. A scan
-    /// that is complete then comes to its end, so none is complete after. All else of the scan stays as it was. What may be
-    /// refused comes first, so after want of memory nothing has changed.
+    /// place. What is not live any more is freed, and the tasks change the datasets and the scan. A scan that is complete then
+    /// comes to its end, so none is complete after. All else of the scan stays as it was. After want of memory the pool is
+    /// suspended, and may have some of the group.
     pub(crate) fn apply(&mut self) -> Result<Boxed<Seq<Item>>, AllocError>
+        ghost space: { Space }
+        requires space { space ≡ space_in self.old }
         requires up { self.old.state.suspended ≡ false }
         requires writing { self.old.state.stage ≡ Stage.Writing }
         ensures step { IfOk result (λ items. DataStep self.old.state items self.new.state) }
         ensures complete { OnOk result (IsComplete self.old.scan → self.new.state.finished ≡ true) }
         ensures never { OnOk result (IsComplete self.new.scan → ⊥) }
-        ensures scan { OnOk result
-            ((pieces : List Piece) × AreGone pieces self.old.state.graph self.new.state.graph ×
-            IsSynced pieces self.new.state.applied self.old.scan self.new.scan) }
+        ensures scan { OnOk result (IsSynced self.old.state self.old.scan self.new.scan) }
         ensures rest { OnOk result (self.new ≡ record self.old { state = self.new.state; scan = self.new.scan; pointers = [] }) }
         ensures items { IfOk result (λ items. AreItemsOf self.old.pointers items) }
         ensures stage { OnOk result (self.new.state.stage ≡ Stage.Labelling) }
-        ensures err { OnErr result (self.new ≡ self.old) }
+        ensures flight { self.new.scan.flight ≡ self.old.scan.flight }
+        ensures err { OnErr result (IsHaltedCore self.old self.new) }
     {
-        let Some(closed) = &self.closed else {
+        let Some(closed) = mem::replace(&mut self.closed, None) else {
             unreachable!();
         };
         let mut answers = Vec::new(self.alloc);
-        answers.reserve(closed.txg.tasks() as usize)?;
-        let items = boxed_items(self.alloc, &closed.changes)?;
-        put_in(&mut self.heads, &closed.changes, &mut self.scan)?;
-        run_tasks(
+        let applied = apply_group(
             self.alloc,
-            &closed.txg,
-            &mut self.heads,
+            &closed,
+            &mut self.graph,
             &mut self.scan,
             &mut self.saved,
             &mut answers,
         );
         self.applied = closed.txg.txg();
-        self.closed = None;
+        let Ok(items) = applied else {
+            self.suspended = true;
+            self.stage = Stage::Between;
+            return Err(AllocError);
+        };
         self.answers = answers;
         self.finished = end_scan(&mut self.scan, &mut self.saved);
         self.stage = Stage::Labelling;

@@ -13,9 +13,10 @@
 //! read without the engine: a scan that it reports as finished has an entry for each live piece in scope. The present state
 //! is what the engine works with. The type ties them, so no call can do the one without the other.
 //!
-//! Why a sync is made in a copy. Memory may be wanting at any step of it, and a pool half of which is new could keep no
-//! promise. So what a sync applies is made beside the present state and takes its place in one move, after which nothing is
-//! refused; until then datasets, scan and history are as they were, and the pool can still be suspended as it stands.
+//! Why a sync that memory was wanting in ends the pool. What a sync applies, it applies in place: a copy of each dataset would
+//! cost more than the blocks that were written. So where memory is wanting in the middle of it, some of the transaction group
+//! is in the datasets and some is not. No promise about single pieces is lost then, since each step keeps what the type says;
+//! but the pool is of no transaction group any more, and takes no further command.
 //!
 //! The sessions of `zscan` call it. Two layers: `present` makes the steps and keeps what is true of the state; `pool` adds
 //! one event per call. To change what a command does see `staging` and `specs/Replies`, `specs/Steps`; the end of a sync
@@ -24,9 +25,9 @@
 #![tactic(auto)]
 
 mod apply;
+mod born;
 mod errors;
-mod freeing;
-mod heads;
+mod listing;
 mod parts;
 pub mod pool;
 mod present;

@@ -1,20 +1,18 @@
 //! The parts of a pool's present state.
 
-use zs_flat::Flat;
-use zs_ids::{Bp, DsId, Key, Name};
+use zs_ids::{Bp, DsId, Key};
 use zs_txg::OpenTxg;
 
-/// The head of a pool.
+/// The pointers to the blocks that are staged for a dataset, in order of key.
 #[derive(Drop)]
-pub(crate) struct Head {
-    pub(crate) id: DsId,
-    pub(crate) name: Name,
-    pub(crate) map: Flat,
+pub(crate) struct Changes {
+    pub(crate) ds: DsId,
+    pub(crate) blocks: Vec<(Key, Bp)>,
 }
 
-/// A transaction group that a sync has closed and not yet applied, with the pointers to its blocks.
+/// A transaction group that a sync has closed and not yet applied, with the pointers to its blocks, for each dataset in order.
 #[derive(Drop)]
 pub(crate) struct Closed {
     pub(crate) txg: OpenTxg,
-    pub(crate) changes: Vec<(Key, Bp)>,
+    pub(crate) changes: Vec<Changes>,
 }

@@ -11,16 +11,16 @@ ghost use Rattle.zs_walk.specs.Left.{turns_left};
 ghost use Rattle.zs_machine.specs.Machine.{is_running, is_at_work};
 ghost use Rattle.zs_core.specs.Line.{IsLineReply};
 ghost use Rattle.zs_core.specs.Status.{status_reply};
-ghost use Rattle.zs_machine.specs.Steps.{committed_reply, CommandStep, DataStep, ReadBeginStep, ReadEndStep, VerdictStep, blank_state, begun_sync, halted};
+ghost use Rattle.zs_machine.specs.Steps.{committed_reply, CommandStep, TaskStep, DataStep, ReadBeginStep, ReadEndStep, VerdictStep, blank_state, begun_sync};
 ghost use Rattle.zs_machine.specs.Replies.{read_refusal};
 ghost use Rattle.zs_core.specs.FlightTold.{FlyAsTold};
 ghost use Rattle.zs_machine.specs.Writes.{AreStagedBlocks, AreInRoom, AreApart};
 ghost use Rattle.zs_ledger.specs.Entry.{HaveCopies};
 ghost use Rattle.zs_ids.specs.declared.block.Item.{Item};
 ghost use Rattle.zs_core.specs.Judging.{HasVerdict};
-ghost use Rattle.zs_core.specs.Synced.{AreGone, IsSynced, AppliesGroup};
+ghost use Rattle.zs_core.specs.Synced.{IsSynced, AppliesGroup};
 ghost use Rattle.zs_objset.specs.Staged.{pointers_of};
-ghost use Rattle.zs_core.specs.Safe.{IsSafe, IsFullFor, next_after};
+ghost use Rattle.zs_core.specs.Safe.{IsFullFor, IsHaltedCore, IsSafe, next_after};
 ghost use Rattle.zs_core.specs.Reading.{IsGotFor, EndsIfRead, IsPlanInRoom};
 ghost use Rattle.zs_machine.specs.History.{AddsEvent};
 ghost use Rattle.zs_core.specs.View.{KeepsCourse, KeepsReads, with_read};
@@ -28,7 +28,7 @@ ghost use Rattle.std.specs.Prelude.{ℕ, List, Option};
 ghost use Rattle.zs_ids.specs.declared.block.Piece.{Piece};
 ghost use Rattle.zs_machine.specs.History.{IsHistory};
 ghost use Rattle.zs_machine.specs.Shapes.{IsShape, IsLeast, data_start, room_in};
-ghost use Rattle.zs_core.specs.Calls.{IsPoolCommand, IsPlain};
+ghost use Rattle.zs_core.specs.Calls.{IsPoolCommand, IsPlain, IsStaging};
 
 use crate::present::Present;
 use crate::read::Begun;
@@ -138,19 +138,15 @@ fn pieces_judged(pieces: Vec<Piece>, entries: &[Entry]) -> Vec<Piece>
     pieces
 }
 
-/// Suspends a pool in whose sync memory was wanting, and adds the event of that to its history, which has room for it. Takes
-/// no memory.
-fn halt(present: &mut Present, history: &mut Vec<Event>)
+/// Adds the event of a pool that was suspended, in whose sync memory was wanting, to a history that has room for it. Takes no
+/// memory.
+fn note_halted(history: &mut Vec<Event>, online: u32)
     requires room { vec_len history.old < vec_capacity history.old }
-    ensures present { present.new ≡ record present.old { state = halted present.old.state } }
     ensures items { history.new.items
-        ≡ history.old.items
-        ++ record { by = 0; step = Step.Suspend present.old.state.online CommitFault.Memory; reply = Reply.Nothing } ∷ [] }
+        ≡ history.old.items ++ record { by = 0; step = Step.Suspend online CommitFault.Memory; reply = Reply.Nothing } ∷ [] }
     ensures len { vec_len history.new ≡ vec_len history.old + 1 }
     ensures capacity { vec_capacity history.new ≡ vec_capacity history.old }
 {
-    let online = present.online();
-    present.suspend();
     let event = Event {
         by: 0,
         step: Step::Suspend {
@@ -160,6 +156,17 @@ fn halt(present: &mut Present, history: &mut Vec<Event>)
         reply: Reply::Nothing,
     };
     note(history, event);
+}
+
+/// Adds the event of a command with its reply to a history that has room for it.
+fn note_command(history: &mut Vec<Event>, by: u8, c: Boxed<Command>, reply: Reply)
+    requires { vec_len history.old < vec_capacity history.old }
+    ensures event { history.new.items ≡ history.old.items ++ record { by = by; step = Step.Command c; reply = reply } ∷ [] }
+    ensures len { vec_len history.new ≡ vec_len history.old + 1 }
+    ensures capacity { vec_capacity history.new ≡ vec_capacity history.old }
+{
+    let step = Step::Command(c);
+    note(history, Event { by, step, reply });
 }
 
 /// Adds the event of a command to a history that has room for it, and gives the reply back. The reply is one that
@@ -173,13 +180,30 @@ fn record(history: &mut Vec<Event>, by: u8, c: Boxed<Command>, reply: Reply) -> 
     ensures same { result ≡ reply }
 {
     let copy = copied(&reply);
-    let event = Event {
-        by,
-        step: Step::Command(c),
-        reply: copy,
-    };
-    note(history, event);
+    note_command(history, by, c, copy);
     reply
+}
+
+/// Queues a task of a client, and adds the event of its command to a history that has room for it. After want of memory nothing
+/// has changed.
+fn note_task(
+    present: &mut Present,
+    history: &mut Vec<Event>,
+    by: u8,
+    c: Boxed<Command>,
+    task: Task,
+) -> Result<Reply, AllocError>
+    requires room { vec_len history.old < vec_capacity history.old }
+    ensures step { IfOk result (λ answer. TaskStep present.old.state by task answer present.new.state) }
+    ensures kept { KeepsCourse present.old.state present.new.state }
+    ensures rest { OnOk result (present.new ≡ record present.old { state = present.new.state }) }
+    ensures event { IfOk result (λ answer. history.new.items ≡ history.old.items ++ record { by = by; step = Step.Command c; reply = answer } ∷ []) }
+    ensures len { OnOk result (vec_len history.new ≡ vec_len history.old + 1) }
+    ensures capacity { vec_capacity history.new ≡ vec_capacity history.old }
+    ensures err { OnErr result ((present.new ≡ present.old) × (history.new ≡ history.old)) }
+{
+    let reply = present.queue(by, task)?;
+    Ok(record(history, by, c, reply))
 }
 
 #[tactic(auto, using(zs_machine::proofs::Histories::history_on, crate::proofs::Flying::fly_still))]
@@ -287,7 +311,8 @@ impl Pool {
 
     /// Stages a record, queues a task, or tells the status or the damaged pieces, for a client. Refusals are replies.
     pub fn command(&mut self, by: u8, c: &Command) -> Result<Reply, AllocError>
-        requires { IsPoolCommand c.now }
+        requires command { IsPoolCommand c.now }
+        requires open { IsStaging c.now → self.old.core.state.stage ≢ Stage.Writing }
         ensures adds { IfOk result (λ answer. self.new.history ≡ self.old.history ++ record { by = by; step = Step.Command c.now; reply = answer } ∷ []) }
         ensures step { IfOk result (λ answer. CommandStep self.old.core.state by c.now answer self.new.core.state) }
         ensures rest { OnOk result (self.new.core ≡ record self.old.core { state = self.new.core.state; next_sector = self.new.core.next_sector }) }
@@ -301,12 +326,46 @@ impl Pool {
         let line = Boxed::new(self.alloc, *c)?;
         match c {
             Command::Fs { name } => {
-                let reply = self.present.queue(by, Task::Fs(*name))?;
-                Ok(record(&mut self.history, by, line, reply))
+                note_task(
+                    &mut self.present,
+                    &mut self.history,
+                    by,
+                    line,
+                    Task::Fs { name: *name },
+                )
+            }
+            Command::Snap { head, label } => {
+                let task = Task::Snap {
+                    head: *head,
+                    label: *label,
+                };
+                note_task(&mut self.present, &mut self.history, by, line, task)
+            }
+            Command::Clone { ds, name } => {
+                let task = Task::Clone {
+                    ds: *ds,
+                    name: *name,
+                };
+                note_task(&mut self.present, &mut self.history, by, line, task)
+            }
+            Command::Destroy { ds } => {
+                note_task(
+                    &mut self.present,
+                    &mut self.history,
+                    by,
+                    line,
+                    Task::Destroy { ds: *ds },
+                )
+            }
+            Command::Swap { first, second } => {
+                let task = Task::Swap {
+                    first: *first,
+                    second: *second,
+                };
+                note_task(&mut self.present, &mut self.history, by, line, task)
             }
             Command::Scrub => {
-                let reply = self.present.queue(by, Task::Scrub)?;
-                Ok(record(&mut self.history, by, line, reply))
+                note_task(&mut self.present, &mut self.history, by, line, Task::Scrub)
             }
             Command::Make {
                 ds,
@@ -330,22 +389,17 @@ impl Pool {
             Command::Status => {
                 let told = self.present.status()?;
                 let reply = self.present.status()?;
-                let event = Event {
-                    by,
-                    step: Step::Command(line),
-                    reply: told,
-                };
-                note(&mut self.history, event);
+                note_command(&mut self.history, by, line, told);
                 Ok(reply)
             }
             Command::Errors => {
                 let (reply, told) = self.present.errors()?;
-                let event = Event {
-                    by,
-                    step: Step::Command(line),
-                    reply: told,
-                };
-                note(&mut self.history, event);
+                note_command(&mut self.history, by, line, told);
+                Ok(reply)
+            }
+            Command::List => {
+                let (reply, told) = self.present.list()?;
+                note_command(&mut self.history, by, line, told);
                 Ok(reply)
             }
             _ => unreachable!(),
@@ -404,8 +458,8 @@ impl Pool {
 
     /// Applies the closed transaction group: its blocks, then its tasks, and the scan may come to its end. The pieces that
     /// are not live any more are freed, a scrub may start or be resumed, and all else of the scan stays as it was. The marks
-    /// tell where the blocks' writes stand in the journals; no device failed. After want of memory the pool is suspended,
-    /// and all else of it is as it was.
+    /// tell where the blocks' writes stand in the journals; no device failed. After want of memory the pool is suspended, and
+    /// may have some of the group.
     pub fn end_data(&mut self, marks: &Marks) -> Result<(), AllocError>
         requires writing { self.old.core.state.stage ≡ Stage.Writing }
         requires up { self.old.core.state.suspended ≡ false }
@@ -413,23 +467,22 @@ impl Pool {
         ensures step { OnOk result (AppliesGroup marks.now self.old self.new) }
         ensures ends { OnOk result (IsComplete self.old.core.scan → is_at_work self.new.core.state.scan ≡ false) }
         ensures rest { OnOk result (self.new.core ≡ record self.old.core { state = self.new.core.state; scan = self.new.core.scan; pointers = [] }) }
-        ensures scan { OnOk result
-            ((pieces : List Piece) × AreGone pieces self.old.core.state.graph self.new.core.state.graph ×
-            IsSynced pieces self.new.core.state.applied self.old.core.scan self.new.core.scan) }
+        ensures scan { OnOk result (IsSynced self.old.core.state self.old.core.scan self.new.core.scan) }
         ensures stage { OnOk result (self.new.core.state.stage ≡ Stage.Labelling) }
         ensures kept { OnOk result (KeepsReads self.old.core.state self.new.core.state) }
         ensures err { OnErr result
             (AddsEvent 0
             (Step.Suspend self.old.core.state.online CommitFault.Memory) Reply.Nothing self.old.history self.new.history ×
-            (self.new.core ≡ record self.old.core { state = halted self.old.core.state })) }
+            IsHaltedCore self.old.core self.new.core) }
     {
         let online = self.present.online();
         let Ok(marks) = Boxed::new(self.alloc, *marks) else {
-            halt(&mut self.present, &mut self.history);
+            self.present.suspend();
+            note_halted(&mut self.history, online);
             return Err(AllocError);
         };
         let Ok(items) = self.present.apply() else {
-            halt(&mut self.present, &mut self.history);
+            note_halted(&mut self.history, online);
             return Err(AllocError);
         };
         let event = Event {
@@ -476,14 +529,15 @@ impl Pool {
         ensures err { OnErr result
             (AddsEvent 0
             (Step.Suspend self.old.core.state.online CommitFault.Memory) Reply.Nothing self.old.history self.new.history ×
-            (self.new.core ≡ record self.old.core { state = halted self.old.core.state })) }
+            IsHaltedCore self.old.core self.new.core) }
     {
         let online = self.present.online();
         let (Ok(reply), Ok(answer)) = (
             self.present.committed_reply(),
             self.present.committed_reply(),
         ) else {
-            halt(&mut self.present, &mut self.history);
+            self.present.suspend();
+            note_halted(&mut self.history, online);
             return Err(AllocError);
         };
         self.present.commit();

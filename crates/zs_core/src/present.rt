@@ -1,26 +1,30 @@
 //! The present state of a pool: each call makes one step of the machine.
 
-ghost use Rattle.std.specs.Prelude.{◌≡◌, ◌<◌, ◌≤◌, ◌+◌, ◌++◌, ◌∷◌, [], None, Some, true, false, IfOk, OnOk, OnErr, take, drop, length, if◌then◌else◌};
-ghost use Rattle.zs_txg.specs.Txg.{entries_for};
-ghost use Rattle.zs_objset.specs.Staged.{pointers_of, AreSized};
+ghost use Rattle.std.specs.Prelude.{◌≡◌, ◌<◌, ◌≤◌, ◌+◌, ◌++◌, ◌∷◌, [], None, Some, true, false, IfOk, OnOk, OnErr, map, take, drop, length, if◌then◌else◌};
+ghost use Rattle.zs_objset.specs.Staged.{pointers_of};
+ghost use Rattle.zs_ids.specs.Graph.{Dataset};
+ghost use Rattle.zs_ids.specs.GraphTree.{dataset_at};
+ghost use Rattle.zs_ids.specs.GraphValid.{IsInIdOrder};
 ghost use Rattle.zs_machine.specs.Machine.{PoolState, is_running};
 ghost use Rattle.zs_walk.specs.Walking.{runs};
 ghost use Rattle.zs_scan.specs.Steps.{blank_scan};
-ghost use Rattle.zs_machine.specs.Steps.{TaskStep, blank_state, empty_txg, committed_reply, finished_line, begun_sync, halted};
+ghost use Rattle.zs_machine.specs.Steps.{TaskStep, blank_state, empty_txg, committed_reply, finished_line, begun_sync};
 ghost use Rattle.zs_machine.specs.Writes.{AreStagedBlocks, AreInRoom, AreApart};
 ghost use Rattle.zs_machine.specs.Replies.{task_reply, after_queued};
 ghost use Rattle.zs_core.specs.Calls.{IsPlain};
 ghost use Rattle.zs_machine.specs.Shapes.{IsShape, IsLeast, data_start, room_in};
-ghost use Rattle.zs_core.specs.Safe.{IsSafe};
-ghost use Rattle.zs_core.specs.View.{CoreView, AreHeadsBlocks, KeepsCourse};
+ghost use Rattle.zs_core.specs.Safe.{IsHaltedCore, IsSafe};
+ghost use Rattle.zs_core.specs.View.{CoreView, KeepsCourse};
+ghost use Rattle.zs_core.specs.Staging.{AreMade, AreMadeBehind, AreReady};
 
-use crate::heads::Heads;
-use crate::parts::{Closed, Head};
+use crate::parts::{Changes, Closed};
 use crate::status::{counted, kind_word};
 use std::alloc::{AllocError, Global};
 use std::marker::Model;
+use zs_flat::Flat;
+use zs_graph::Graph;
 use zs_ids::limits::TXG_END;
-use zs_ids::{Bp, Key, Seq};
+use zs_ids::{Bp, DsId, Key, Seq};
 use zs_machine::{OpenRead, Shape, Stage};
 use zs_objset::{StagedBlock, staged_blocks};
 use zs_scan::Scan;
@@ -35,7 +39,7 @@ pub(crate) struct Present {
     pub(crate) online: u32,
     pub(crate) next_sector: u32,
     pub(crate) end_sector: u32,
-    pub(crate) heads: Heads,
+    pub(crate) graph: Graph<Flat>,
     pub(crate) applied: u64,
     pub(crate) open: OpenTxg,
     pub(crate) closed: Option<Closed>,
@@ -72,21 +76,30 @@ impl Present {
         ensures end { IfOk result (λ p. IsLeast p.end_sector shape.sectors) }
     {
         let scan = Scan::blank(alloc, shape.devices, shape.width, shape.limit)?;
+        let graph = Graph::new(alloc)?;
         let online = (1u32 << shape.devices) - 1;
         let next_sector = shape.data_start();
         let end_sector = shape.space_end();
+        let open = OpenTxg::new(alloc, 2);
+        let first = OpenTxg::new(alloc, 1);
+        let none = Vec::new(alloc);
+        let mut changes = Vec::new(alloc);
+        changes.push(Changes {
+            ds: DsId::ORIGIN,
+            blocks: none,
+        })?;
         Ok(Present {
             alloc,
             shape,
             online,
             next_sector,
             end_sector,
-            heads: Heads { head: None },
+            graph,
             applied: 0,
-            open: OpenTxg::new(alloc, 2),
+            open,
             closed: Some(Closed {
-                txg: OpenTxg::new(alloc, 1),
-                changes: Vec::new(alloc),
+                txg: first,
+                changes,
             }),
             stage: Stage::Writing,
             scan,
@@ -199,8 +212,7 @@ impl Present {
         ensures err { OnErr result (self.new ≡ self.old) }
     {
         let txg = self.open.txg();
-        let blocks = staged_of(self.alloc, &self.heads.head, &self.open)?;
-        let changes = keyed_pointers(self.alloc, &blocks)?;
+        let (blocks, changes) = staged_of(self.alloc, &self.graph, &self.open)?;
         let open = OpenTxg::new(self.alloc, txg + 1);
         let closed = std::mem::replace(&mut self.open, open);
         self.closed = Some(Closed {
@@ -248,26 +260,81 @@ impl Present {
         self.stage = Stage::Between;
     }
 
-    /// Suspends the pool. Nothing else changes.
+    /// Suspends the pool because memory was wanting in its sync, whose blocks are dropped.
     pub(crate) fn suspend(&mut self)
-        ensures { self.new ≡ record self.old { state = halted self.old.state } }
+        ensures { IsHaltedCore self.old self.new }
     {
+        self.closed = None;
         self.suspended = true;
         self.stage = Stage::Between;
     }
 }
 
-/// The blocks that are staged for the head.
+/// The blocks that are staged for the datasets, dataset after dataset, and the pointers to them, for each dataset in order.
 fn staged_of(
     alloc: Global,
-    head: &Option<Head>,
+    graph: &Graph<Flat>,
+    txg: &OpenTxg,
+) -> Result<(Vec<StagedBlock>, Vec<Changes>), AllocError>
+    ensures { IfOk result (λ v. AreReady graph.now.sets txg.now v.0.items v.1.items) }
+{
+    graph.facts();
+    let ids = graph.ids()?;
+    staged_of_each(alloc, graph, &ids, txg)
+}
+
+/// The same, where the ids of the datasets are known.
+fn staged_of_each(
+    alloc: Global,
+    graph: &Graph<Flat>,
+    ids: &[DsId],
+    txg: &OpenTxg,
+) -> Result<(Vec<StagedBlock>, Vec<Changes>), AllocError>
+    requires ids { ids.now ≡ map (λ d. d.id) graph.now.sets }
+    requires order { IsInIdOrder graph.now.sets }
+    ensures { IfOk result (λ v. AreReady graph.now.sets txg.now v.0.items v.1.items) }
+{
+    let mut blocks = Vec::new(alloc);
+    let mut changes = Vec::new(alloc);
+    for ds in ids {
+        add_staged(alloc, graph, *ds, txg, &mut blocks, &mut changes)?;
+    }
+    Ok((blocks, changes))
+}
+
+/// Puts the blocks that are staged for a dataset, and the pointers to them, behind those that are there.
+fn add_staged(
+    alloc: Global,
+    graph: &Graph<Flat>,
+    ds: DsId,
+    txg: &OpenTxg,
+    blocks: &mut Vec<StagedBlock>,
+    changes: &mut Vec<Changes>,
+) -> Result<(), AllocError>
+    ensures { OnOk result ((d : Dataset) → dataset_at graph.now.sets ds ≡ Some d
+        → AreMadeBehind d txg.now blocks.old.items blocks.new.items changes.old.items changes.new.items) }
+{
+    let mut own = staged_for(alloc, graph, ds, txg)?;
+    let pointers = keyed_pointers(alloc, &own)?;
+    changes.push(Changes {
+        ds,
+        blocks: pointers,
+    })?;
+    blocks.append(&mut own)?;
+    Ok(())
+}
+
+/// The blocks that are staged for a dataset.
+fn staged_for(
+    alloc: Global,
+    graph: &Graph<Flat>,
+    ds: DsId,
     txg: &OpenTxg,
 ) -> Result<Vec<StagedBlock>, AllocError>
-    ensures blocks { IfOk result (λ v. AreHeadsBlocks head.now txg.now v.items) }
-    ensures sized { IfOk result (λ v. (h : Head) → head.now ≡ Some h → AreSized (entries_for txg.now.staged h.id) v.items) }
+    ensures { IfOk result (λ v. (d : Dataset) → dataset_at graph.now.sets ds ≡ Some d → AreMade d txg.now v.items) }
 {
-    match head {
-        Some(head) => Ok(staged_blocks(alloc, &head.map, head.id, txg)?),
+    match graph.blocks(ds) {
+        Some(map) => staged_blocks(alloc, map, ds, txg),
         None => Ok(Vec::new(alloc)),
     }
 }

@@ -1,6 +1,6 @@
 //! Reads: where an answer comes from, and what is answered.
 
-ghost use Rattle.std.specs.Prelude.{◌≡◌, IfOk, OnErr, IfSome, IfNone, OnSome, ◌≤◌, true, IsTrue, ◌↔◌, length, ◌++◌, ◌∷◌, [], ℕ, List, Option, None};
+ghost use Rattle.std.specs.Prelude.{◌≡◌, IfOk, OnErr, IfSome, IfNone, OnSome, ◌≤◌, true, IsTrue, ◌↔◌, length, ◌++◌, ◌∷◌, [], ℕ, List, Option, None, Some};
 ghost use Rattle.std.specs.Option.{option_copied};
 ghost use Rattle.std.specs.Int.{from_be_bytes, w64};
 ghost use Rattle.zs_ids.specs.Key.{record_key};
@@ -8,18 +8,17 @@ ghost use Rattle.zs_ids.specs.Blocks.{bp_at};
 ghost use Rattle.zs_sum.specs.Sum.{sha256};
 ghost use Rattle.zs_machine.specs.Machine.{staged_record};
 ghost use Rattle.zs_machine.specs.Replies.{read_refusal};
-ghost use Rattle.zs_machine.specs.Steps.{ReadBeginStep, ReadEndStep, IsReadAnswer, plan_from};
+ghost use Rattle.zs_machine.specs.Steps.{ReadBeginStep, ReadEndStep, IsReadAnswer, plan_from, plan_in};
 ghost use Rattle.std.specs.Prelude.{Ok};
-ghost use Rattle.zs_core.specs.View.{dataset_of};
+ghost use Rattle.zs_ids.specs.Graph.{Dataset};
+ghost use Rattle.zs_ids.specs.GraphTree.{dataset_at, entries_of};
 ghost use Rattle.zs_machine.specs.Shapes.{room_in};
 ghost use Rattle.zs_script.specs.declared.refusal.Refusal.{Refusal};
-ghost use Rattle.zs_core.specs.Reading.{planned_of, begun_reply, IsGotFor, IsReadReply, HasNoRead, IsFirstRead, EndsRead, IsBegunInRoom, IsPlacedAt, got_reply, read_reply};
+ghost use Rattle.zs_core.specs.Reading.{planned_of, begun_reply, IsGotFor, IsReadReply, HasNoRead, IsFirstRead, EndsRead, IsBegunInRoom, IsPlacedAt, ReadsOr, got_reply, read_reply};
 
-use crate::parts::Head;
 use crate::present::Present;
-use crate::staging::is_head_named;
 use std::alloc::AllocError;
-use zs_ids::{Blocks, DsId, DsName, Item, Key};
+use zs_ids::{Bp, DsId, DsName, Item, Key};
 use zs_machine::{OpenRead, ReadPlan};
 use zs_scan::item_of;
 use zs_script::{Refusal, Reply};
@@ -46,40 +45,37 @@ fn key_of(object: u16, leaf: u32) -> Key
 }
 
 impl Present {
-    /// Why a `read` is refused.
-    fn read_refusal(&self, ds: &DsName, object: u16, leaf: u32) -> Option<Refusal>
-        ensures { result ≡ read_refusal self.now.state ds.now object leaf }
+    /// Which dataset a `read` reads, or why it is refused.
+    fn may_read(&self, name: &DsName, object: u16, leaf: u32) -> Result<DsId, Refusal>
+        ensures { ReadsOr (read_refusal self.now.state name.now object leaf) self.now.state name.now result }
     {
         if self.suspended {
-            return Some(Refusal::Suspended);
+            return Err(Refusal::Suspended);
         }
-        let Some(head) = &self.heads.head else {
-            return Some(Refusal::NoDataset);
+        self.graph.facts();
+        let Some(id) = self.graph.find(name) else {
+            return Err(Refusal::NoDataset);
         };
-        if !is_head_named(head, ds) {
-            return Some(Refusal::NoDataset);
-        }
-        if !self.has_object(head, object) {
-            return Some(Refusal::NoObject);
+        if !self.has_object(id, object) {
+            return Err(Refusal::NoObject);
         }
         if leaf != 0 {
-            return Some(Refusal::PastEnd);
+            return Err(Refusal::PastEnd);
         }
-        None
+        Ok(id)
     }
 
-    /// Where the answer of a read of the head comes from.
-    fn plan(&self, head: &Head, object: u16, leaf: u32) -> ReadPlan
-        ensures plan { result
-            ≡ plan_from (staged_record self.now.state head.now.id (record_key object leaf))
-            (bp_at head.now.map.map.entries (record_key object leaf)) self.now.state.online }
-        ensures placed { staged_record self.now.state head.now.id (record_key object leaf) ≡ None →
-            IsPlacedAt (bp_at head.now.map.map.entries (record_key object leaf)) }
+    /// Where the answer of a read of a dataset comes from.
+    fn plan(&self, ds: DsId, object: u16, leaf: u32) -> ReadPlan
+        ensures plan { (d : Dataset) → dataset_at self.now.state.graph ds ≡ Some d → result ≡ plan_in self.now.state d object leaf }
+        ensures placed { staged_record self.now.state ds (record_key object leaf) ≡ None →
+            IsPlacedAt (bp_at (entries_of (dataset_at self.now.state.graph ds)) (record_key object leaf)) }
     {
-        if let Some(staging) = self.staging(head.id, key_of(object, leaf)) {
+        let key = key_of(object, leaf);
+        if let Some(staging) = self.staging(ds, key) {
             return ReadPlan::Staged(staging.fill.unwrap_or(0));
         }
-        mapped_plan(head, key_of(object, leaf), self.online)
+        mapped_plan(self.pointer_at(ds, key), self.online)
     }
 
     /// Begins a read. After want of memory nothing has changed.
@@ -98,13 +94,11 @@ impl Present {
         ensures rest { self.new ≡ record self.old { state = self.new.state } }
         ensures err { OnErr result (self.new ≡ self.old) }
     {
-        if let Some(refusal) = self.read_refusal(ds, object, leaf) {
-            return Ok(Begun::Refused(refusal));
-        }
-        let Some(head) = &self.heads.head else {
-            return Ok(Begun::Refused(Refusal::NoDataset));
+        let id = match self.may_read(ds, object, leaf) {
+            Ok(id) => id,
+            Err(refusal) => return Ok(Begun::Refused(refusal)),
         };
-        let plan = self.plan(head, object, leaf);
+        let plan = self.plan(id, object, leaf);
         let read = OpenRead {
             by,
             ds: *ds,
@@ -137,11 +131,11 @@ impl Present {
 }
 
 /// Where the answer of a read comes from that is not staged.
-fn mapped_plan(head: &Head, key: Key, online: u32) -> ReadPlan
-    ensures plan { result ≡ plan_from None (bp_at head.now.map.map.entries key) online }
-    ensures placed { IsPlacedAt (bp_at head.now.map.map.entries key) }
+fn mapped_plan(mapped: Option<Bp>, online: u32) -> ReadPlan
+    ensures plan { result ≡ plan_from None mapped online }
+    ensures placed { IsPlacedAt mapped }
 {
-    match head.map.get(key) {
+    match mapped {
         Some(bp) => ReadPlan::Pinned(item_of(&bp), online),
         None => ReadPlan::Hole,
     }

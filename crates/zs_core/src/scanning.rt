@@ -30,7 +30,7 @@ impl Present {
         ensures rest { self.new ≡ record self.old { scan = self.new.scan } }
         ensures err { OnErr result (self.new ≡ self.old) }
     {
-        let turn = self.scan.walk_step(&self.heads)?;
+        let turn = self.scan.walk_step(&self.graph)?;
         Ok(turn)
     }
 

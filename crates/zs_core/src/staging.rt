@@ -1,25 +1,28 @@
 //! Staging a new object's record.
 
-ghost use Rattle.std.specs.Prelude.{nat_le, ◌≡◌, ◌<◌, ◌≤◌, ◌+◌, ◌/◌, ◌-◌, ◌%◌, ◌^◌, None, Some, true, false, IfOk, OnOk, OnErr, IsErrOf, ◌↔◌, is_some, if◌then◌else◌, option_map};
+ghost use Rattle.std.specs.Prelude.{nat_le, ◌≡◌, ◌≢◌, ◌<◌, ◌≤◌, ◌+◌, ◌/◌, ◌-◌, ◌%◌, ◌^◌, None, Some, true, false, IfOk, OnOk, OnErr, IsErrOf, ◌↔◌, is_some, if◌then◌else◌, option_map};
 ghost use Rattle.zs_ids.specs.Key.{root_key, dnode_key, record_key};
 ghost use Rattle.zs_txg.specs.Txg.{staged_at, put_staged};
 ghost use Rattle.zs_machine.specs.Machine.{has_object, staged_record, record_sectors};
-ghost use Rattle.zs_ids.specs.GraphTree.{is_named};
+ghost use Rattle.zs_ids.specs.Blocks.{bp_at};
+ghost use Rattle.zs_ids.specs.Graph.{Dataset};
+ghost use Rattle.zs_ids.specs.GraphTree.{dataset_at, entries_of};
 ghost use Rattle.zs_machine.specs.Replies.{make_refusal, write_refusal};
 ghost use Rattle.zs_script.specs.declared.command.Command.TheVariants.{Make, Write};
 ghost use Rattle.zs_script.specs.Lines.{IsMake};
 ghost use Rattle.zs_machine.specs.Steps.{MakeStep, WriteStep, staged_once};
 ghost use Rattle.zs_core.specs.Placed.{staged_again};
 ghost use Rattle.zs_core.specs.Calls.{IsPlain};
-ghost use Rattle.zs_core.specs.View.{dataset_of, KeepsCourse};
+ghost use Rattle.zs_core.specs.View.{KeepsCourse};
+ghost use Rattle.zs_core.specs.Staging.{HeadToWrite, StagesOr};
 ghost use Rattle.zs_core.specs.Safe.{IsFullFor, next_after};
 ghost use Rattle.zs_core.specs.Kept.{sectors_to_stage};
 
-use crate::parts::Head;
 use crate::present::Present;
 use std::alloc::AllocError;
 use zs_ids::limits::TXG_END;
-use zs_ids::{Blocks, DsId, DsName, Key, Name, Place};
+use zs_ids::{Blocks, Bp, DsId, DsName, Key, Place};
+use zs_machine::Stage;
 use zs_script::{Refusal, Reply};
 use zs_txg::{OpenTxg, Staging};
 
@@ -50,14 +53,6 @@ fn dnode_key(object: u16) -> Key
     }
 }
 
-/// Whether this is the head's name.
-pub(crate) fn is_head_named(head: &Head, ds: &DsName) -> bool
-    requires { 0 < head.now.id.0 }
-    ensures { result ≡ is_named ds.now (dataset_of head.now) }
-{
-    head.name == ds.owner && Name::EMPTY == ds.label
-}
-
 /// Stages a block of pointers at the next sector, unless one is staged at the key.
 fn stage_once(txg: &mut OpenTxg, ds: DsId, key: Key, sector: u32) -> u32
     requires room { 1 ≤ txg.old.room }
@@ -77,12 +72,19 @@ fn stage_once(txg: &mut OpenTxg, ds: DsId, key: Key, sector: u32) -> u32
 }
 
 impl Present {
-    /// Whether the head has the object: its record 0 is mapped or staged.
-    pub(crate) fn has_object(&self, head: &Head, object: u16) -> bool
-        ensures { result ≡ has_object self.now.state (dataset_of head.now) object }
+    /// The pointer that a dataset has at a key.
+    pub(crate) fn pointer_at(&self, ds: DsId, key: Key) -> Option<Bp>
+        ensures { result ≡ bp_at (entries_of (dataset_at self.now.state.graph ds)) key }
     {
-        self.staging(head.id, record_key(object)).is_some()
-            || head.map.get(record_key(object)).is_some()
+        self.graph.blocks(ds)?.get(key)
+    }
+
+    /// Whether a dataset has the object: its record 0 is mapped or staged.
+    pub(crate) fn has_object(&self, ds: DsId, object: u16) -> bool
+        ensures { (d : Dataset) → dataset_at self.now.state.graph ds ≡ Some d → result ≡ has_object self.now.state d object }
+    {
+        let key = record_key(object);
+        self.staging(ds, key).is_some() || self.pointer_at(ds, key).is_some()
     }
 
     /// What is staged for a dataset at a key.
@@ -98,64 +100,65 @@ impl Present {
         }
     }
 
-    /// How many sectors each record of an object of the head has.
-    fn record_sectors(&self, head: &Head, object: u16) -> u16
-        ensures { result ≡ record_sectors self.now.state (dataset_of head.now) object }
+    /// How many sectors each record of an object of a dataset has.
+    fn record_sectors(&self, ds: DsId, object: u16) -> u16
+        ensures { (d : Dataset) → dataset_at self.now.state.graph ds ≡ Some d → result ≡ record_sectors self.now.state d object }
     {
-        if let Some(staging) = self.staging(head.id, record_key(object)) {
+        let key = record_key(object);
+        if let Some(staging) = self.staging(ds, key) {
             return staging.sectors;
         }
-        match head.map.get(record_key(object)) {
+        match self.pointer_at(ds, key) {
             Some(bp) => bp.sectors,
             None => 0,
         }
     }
 
-    /// Why a `make` is refused, but for want of space.
-    fn make_refusal(&self, ds: &DsName, object: u16) -> Option<Refusal>
-        ensures { result ≡ make_refusal self.now.state ds.now object }
+    /// The head of that name.
+    fn head_to_write(&self, name: &DsName) -> Result<DsId, Refusal>
+        ensures { HeadToWrite self.now.state name.now result }
     {
         if self.suspended {
-            return Some(Refusal::Suspended);
+            return Err(Refusal::Suspended);
         }
-        let Some(head) = &self.heads.head else {
-            return Some(Refusal::NoDataset);
+        let Some(ds) = self.graph.find(name) else {
+            return Err(Refusal::NoDataset);
         };
-        if !is_head_named(head, ds) {
-            return Some(Refusal::NoDataset);
+        if !self.graph.is_head(ds) {
+            return Err(Refusal::NotHead);
         }
-        if self.has_object(head, object) {
-            return Some(Refusal::ObjectThere);
-        }
-        if self.open.txg() == TXG_END {
-            return Some(Refusal::TxgEnd);
-        }
-        None
+        Ok(ds)
     }
 
-    /// Why a `write` is refused, but for want of space.
-    fn write_refusal(&self, ds: &DsName, object: u16, leaf: u32) -> Option<Refusal>
-        ensures { result ≡ write_refusal self.now.state ds.now object leaf }
+    /// In which head a `make` stages, or why it is refused, but for want of space.
+    fn may_make(&self, name: &DsName, object: u16) -> Result<DsId, Refusal>
+        ensures { StagesOr (make_refusal self.now.state name.now object) self.now.state name.now result }
     {
-        if self.suspended {
-            return Some(Refusal::Suspended);
-        }
-        let Some(head) = &self.heads.head else {
-            return Some(Refusal::NoDataset);
-        };
-        if !is_head_named(head, ds) {
-            return Some(Refusal::NoDataset);
-        }
-        if !self.has_object(head, object) {
-            return Some(Refusal::NoObject);
-        }
-        if leaf != 0 {
-            return Some(Refusal::PastEnd);
+        let ds = self.head_to_write(name)?;
+        if self.has_object(ds, object) {
+            return Err(Refusal::ObjectThere);
         }
         if self.open.txg() == TXG_END {
-            return Some(Refusal::TxgEnd);
+            return Err(Refusal::TxgEnd);
         }
-        None
+        Ok(ds)
+    }
+
+    /// In which head a `write` stages, or why it is refused, but for want of space.
+    fn may_write(&self, name: &DsName, object: u16, leaf: u32) -> Result<DsId, Refusal>
+        ensures { StagesOr (write_refusal self.now.state name.now object leaf) self.now.state name.now result }
+    {
+        let ds = self.head_to_write(name)?;
+        if !self.has_object(ds, object) {
+            return Err(Refusal::NoObject);
+        }
+        if leaf != 0 {
+            return Err(Refusal::PastEnd);
+        }
+        if self.open.txg() == TXG_END {
+            return Err(Refusal::TxgEnd);
+        }
+        Ok(ds)
     }
 
     /// Stages record 0 of a new object in the head of that name.
@@ -167,6 +170,7 @@ impl Present {
         fill: u64,
     ) -> Result<Reply, AllocError>
         requires numbers { IsMake object 1 size }
+        requires open { self.old.state.stage ≢ Stage.Writing }
         ensures step { IfOk result (λ answer. MakeStep self.old.state ds.now object size fill answer self.new.state) }
         ensures plain { IfOk result IsPlain }
         ensures kept { KeepsCourse self.old.state self.new.state }
@@ -175,13 +179,10 @@ impl Present {
         ensures rest { OnOk result (self.new ≡ record self.old { state = self.new.state; next_sector = self.new.next_sector }) }
         ensures err { OnErr result (self.new ≡ self.old) }
     {
-        if let Some(refusal) = self.make_refusal(ds, object) {
-            return Ok(Reply::Refused(refusal));
-        }
-        let Some(head) = &self.heads.head else {
-            return Ok(Reply::Refused(Refusal::NoDataset));
+        let id = match self.may_make(ds, object) {
+            Ok(id) => id,
+            Err(refusal) => return Ok(Reply::Refused(refusal)),
         };
-        let id = head.id;
         let sectors = (size / 512) as u16;
         let needed = sectors_needed(&self.open, id, object, sectors);
         if self.next_sector + needed > self.end_sector {
@@ -205,6 +206,7 @@ impl Present {
         leaf: u32,
         fill: u64,
     ) -> Result<Reply, AllocError>
+        requires open { self.old.state.stage ≢ Stage.Writing }
         ensures step { IfOk result (λ answer. WriteStep self.old.state ds.now object leaf fill answer self.new.state) }
         ensures plain { IfOk result IsPlain }
         ensures kept { KeepsCourse self.old.state self.new.state }
@@ -213,14 +215,11 @@ impl Present {
         ensures rest { OnOk result (self.new ≡ record self.old { state = self.new.state; next_sector = self.new.next_sector }) }
         ensures err { OnErr result (self.new ≡ self.old) }
     {
-        if let Some(refusal) = self.write_refusal(ds, object, leaf) {
-            return Ok(Reply::Refused(refusal));
-        }
-        let Some(head) = &self.heads.head else {
-            return Ok(Reply::Refused(Refusal::NoDataset));
+        let id = match self.may_write(ds, object, leaf) {
+            Ok(id) => id,
+            Err(refusal) => return Ok(Reply::Refused(refusal)),
         };
-        let id = head.id;
-        let sectors = self.record_sectors(head, object);
+        let sectors = self.record_sectors(id, object);
         let needed = sectors_needed(&self.open, id, object, sectors);
         if self.next_sector + needed > self.end_sector {
             return Ok(Reply::Refused(Refusal::NoSpace));

@@ -4,11 +4,11 @@ ghost use Rattle.std.specs.Prelude.{◌≡◌, IfOk, map};
 ghost use Rattle.zs_ids.specs.GraphTree.{dataset_at};
 ghost use Rattle.zs_machine.specs.Status.{counted, kind_word, state_word, TellsStatus};
 ghost use Rattle.zs_core.specs.Status.{name_in, place_of, todo_of, walking_of, status_with, status_reply};
-ghost use Rattle.zs_core.specs.View.{graph_of};
 
-use crate::heads::Heads;
 use crate::present::Present;
 use std::alloc::{AllocError, Global};
+use zs_flat::Flat;
+use zs_graph::Graph;
 use zs_ids::{Boxed, DsId, DsName, Name, Seq};
 use zs_phys::{At, Kind, Status, Todo};
 use zs_scan::Scan;
@@ -48,39 +48,25 @@ fn state_word(status: Status, paused: bool) -> Option<ScanState>
 }
 
 /// The name of a dataset; the origin has none.
-fn name_of(heads: &Heads, id: DsId) -> DsName
-    ensures { result ≡ name_in (dataset_at (graph_of heads.now.head) id) }
+pub(crate) fn name_of(graph: &Graph<Flat>, id: DsId) -> DsName
+    ensures { result ≡ name_in (dataset_at graph.now.sets id) }
 {
-    let none = DsName {
+    graph.name(id).unwrap_or(DsName {
         owner: Name::EMPTY,
         label: Name::EMPTY,
-    };
-    if id.0 == 0 {
-        return none;
-    }
-    match &heads.head {
-        Some(head) => if head.id.0 == id.0 {
-            DsName {
-                owner: head.name,
-                label: Name::EMPTY,
-            }
-        } else {
-            none
-        },
-        None => none,
-    }
+    })
 }
 
 /// Where the walk stands.
-fn place_of(heads: &Heads, scan: &Scan) -> WalkPlace
-    ensures { result ≡ place_of (graph_of heads.now.head) scan.now.run scan.now.run.at }
+fn place_of(graph: &Graph<Flat>, scan: &Scan) -> WalkPlace
+    ensures { result ≡ place_of graph.now.sets scan.now.run scan.now.run.at }
 {
     let run = scan.run();
     match run.at {
         At::Nowhere => WalkPlace::Nowhere,
         At::Destroyed => WalkPlace::Destroyed,
         At::Dataset(id, key) => WalkPlace::Dataset {
-            ds: name_of(heads, id),
+            ds: name_of(graph, id),
             key,
             curmin: run.curmin,
             curmax: run.curmax,
@@ -90,29 +76,33 @@ fn place_of(heads: &Heads, scan: &Scan) -> WalkPlace
 }
 
 /// The datasets that the walk has yet to enter.
-fn todo_of(alloc: Global, heads: &Heads, todo: &[Todo]) -> Result<Vec<TodoEntry>, AllocError>
-    ensures { IfOk result (λ v. v.items ≡ map (todo_of (graph_of heads.now.head)) todo.now) }
+fn todo_of(alloc: Global, graph: &Graph<Flat>, todo: &[Todo]) -> Result<Vec<TodoEntry>, AllocError>
+    ensures { IfOk result (λ v. v.items ≡ map (todo_of graph.now.sets) todo.now) }
 {
     todo.iter()
         .map(|entry| TodoEntry {
-            ds: name_of(heads, entry.id),
+            ds: name_of(graph, entry.id),
             min: entry.min,
         })
         .collect(alloc)
 }
 
 /// The range and the bookmark of a scan that runs.
-fn walking_of(alloc: Global, heads: &Heads, scan: &Scan) -> Result<Option<Walking>, AllocError>
-    ensures { IfOk result (λ w. w ≡ walking_of (graph_of heads.now.head) scan.now) }
+fn walking_of(
+    alloc: Global,
+    graph: &Graph<Flat>,
+    scan: &Scan,
+) -> Result<Option<Walking>, AllocError>
+    ensures { IfOk result (λ w. w ≡ walking_of graph.now.sets scan.now) }
 {
     if !scan.is_running() {
         return Ok(None);
     }
-    let todo = todo_of(alloc, heads, scan.run().todo.as_slice())?;
+    let todo = todo_of(alloc, graph, scan.run().todo.as_slice())?;
     Ok(Some(Walking {
         min: scan.scope().min,
         max: scan.scope().max,
-        place: place_of(heads, scan),
+        place: place_of(graph, scan),
         todo: Seq::from_vec(todo),
     }))
 }
@@ -120,15 +110,15 @@ fn walking_of(alloc: Global, heads: &Heads, scan: &Scan) -> Result<Option<Walkin
 /// How the scan stands, where there was one.
 fn status_of(
     alloc: Global,
-    heads: &Heads,
+    graph: &Graph<Flat>,
     scan: &Scan,
 ) -> Result<Option<Boxed<ScanStatus>>, AllocError>
-    ensures { IfOk result (λ s. s ≡ status_with (graph_of heads.now.head) scan.now (state_word scan.now.run.status scan.now.run.paused)) }
+    ensures { IfOk result (λ s. s ≡ status_with graph.now.sets scan.now (state_word scan.now.run.status scan.now.run.paused)) }
 {
     let Some(state) = state_word(scan.run().status, scan.run().paused) else {
         return Ok(None);
     };
-    let walking = walking_of(alloc, heads, scan)?;
+    let walking = walking_of(alloc, graph, scan)?;
     let status = ScanStatus {
         kind: kind_word(scan.scope().kind),
         state,
@@ -150,7 +140,7 @@ impl Present {
         if self.suspended {
             return Ok(Reply::Refused(Refusal::Suspended));
         }
-        let scan = status_of(self.alloc, &self.heads, &self.scan)?;
+        let scan = status_of(self.alloc, &self.graph, &self.scan)?;
         Ok(Reply::Status {
             txg: self.open.txg(),
             scan,

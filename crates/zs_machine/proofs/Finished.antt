@@ -78,11 +78,16 @@ written_keeps s t name object leaf fill answer whole is = go (write_refusal s na
 
 command_keeps : (s t : PoolState) (by : ℕ) (c : Command) (answer : Reply) → IsWhole s → CommandStep s by c answer t → IsWhole t
 command_keeps s t by (command.Fs name) answer whole is = queued_keeps s t by _ answer whole is
+command_keeps s t by (command.Snap head label) answer whole is = queued_keeps s t by _ answer whole is
+command_keeps s t by (command.Clone ds name) answer whole is = queued_keeps s t by _ answer whole is
+command_keeps s t by (command.Destroy ds) answer whole is = queued_keeps s t by _ answer whole is
+command_keeps s t by (command.Swap first second) answer whole is = queued_keeps s t by _ answer whole is
 command_keeps s t by command.Scrub answer whole is = queued_keeps s t by _ answer whole is
 command_keeps s t by (command.Make ds object levels size fill) answer whole is = made_keeps s t ds object size fill answer whole is
 command_keeps s t by (command.Write ds object leaf fill) answer whole is = written_keeps s t ds object leaf fill answer whole is
 command_keeps s t by command.Status answer whole is = same s t whole is.1
 command_keeps s t by command.Errors answer whole is = same s t whole is.1
+command_keeps s t by command.List answer whole is = same s t whole is.1
 command_keeps s t by _ answer whole is = absurd is
 
 -- entries come only while a scan runs
@@ -130,7 +135,7 @@ keeps s t by (step.Verdict number pieces entries) answer whole is = verdict_keep
 keeps s t by step.BeginSync answer whole is = closes s t by answer whole is
 keeps s t by (step.EndData online marks items) answer whole is = data_keeps s t items is.4
 keeps s t by (step.Committed online) answer whole is = subst (λ (x : PoolState). IsWhole x) (sym is.4) (λ labelling ended. absurd cc)
-keeps s t by (step.Suspend online why) answer whole is = subst (λ (x : PoolState). IsWhole x) (sym is.4) (λ labelling ended. absurd cc)
+keeps s t by (step.Suspend online why) answer whole is = λ labelling ended. let never : stages.Between ≡ stages.Labelling = sym (is.4).between ∙ labelling in absurd cc
 keeps s t by (step.ReadBegin c planned) answer whole is = read_keeps s t by c planned answer whole is
 keeps s t by (step.ReadEnd p places) answer whole is = subst (λ (x : PoolState). IsWhole x) (sym is.closed) whole
 keeps s t by (step.Made c) answer whole is = absurd is
@@ -201,11 +206,16 @@ module _ (txg : ℕ) (answers : List (Option Refusal)) (f : Finished) where
 
   not_command : (s t : PoolState) (by : ℕ) (c : Command) → CommandStep s by c answer t → ⊥
   not_command s t by (command.Fs name) is = not_queued s is.0
+  not_command s t by (command.Snap head label) is = not_queued s is.0
+  not_command s t by (command.Clone ds name) is = not_queued s is.0
+  not_command s t by (command.Destroy ds) is = not_queued s is.0
+  not_command s t by (command.Swap first second) is = not_queued s is.0
   not_command s t by command.Scrub is = not_queued s is.0
   not_command s t by (command.Make ds object levels size fill) is = not_made s t ds object size fill is
   not_command s t by (command.Write ds object leaf fill) is = not_written s t ds object leaf fill is
   not_command s t by command.Status is = is.0
   not_command s t by command.Errors is = is.0
+  not_command s t by command.List is = is.0
   not_command s t by _ is = is
 
   not_line : (s : PoolState) (c : Command) → LineStep s c answer → ⊥

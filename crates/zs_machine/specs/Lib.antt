@@ -6,6 +6,7 @@ pub mod Writes
 pub mod Replies
 pub mod Status
 pub mod Errors
+pub mod Listing
 pub mod Steps
 pub mod Told
 pub mod Commands

@@ -1,16 +1,15 @@
 -- The steps of the machine: which state an event leads to, and which replies it may have.
 use Rattle.std.specs.Prelude.{◌≡◌, ℕ, ◌+◌, ◌-◌, ◌*◌, ◌/◌, ◌^◌, ◌==◌, ◌≤◌, ◌<◌, unwrap_or, true, false, if◌then◌else◌}
-use Rattle.std.specs.Prelude.{List, [], ◌∷◌, ◌++◌, length, filter, fold, map, Option, Some, None, is_some, ◌⊎◌}
+use Rattle.std.specs.Prelude.{List, [], ◌∷◌, ◌++◌, length, filter, map, Option, Some, None, is_some, ◌⊎◌}
 use Rattle.std.specs.Int.{from_be_bytes, w64}
 use Rattle.zs_ids.specs.declared.key.Key.{Key}
 use Rattle.zs_ids.specs.declared.block.Bp.{Bp}
 use Rattle.zs_ids.specs.declared.block.Place.{Place}
 use Rattle.zs_ids.specs.declared.dataset.DsId.{DsId}
 use Rattle.zs_ids.specs.declared.dataset.DsName.{DsName}
-use Rattle.zs_ids.specs.declared.dataset.Name.{Name}
 use Rattle.zs_ids.specs.declared.limits.TheConstants.{TXG_END}
 use Rattle.zs_ids.specs.Key.{root_key, dnode_key, record_key}
-use Rattle.zs_ids.specs.Blocks.{bp_at, replaced}
+use Rattle.zs_ids.specs.Blocks.{bp_at, entries_with}
 use Rattle.zs_ids.specs.Graph.{Dataset, Graph}
 use Rattle.zs_sum.specs.Sum.{sha256}
 use Rattle.zs_objset.specs.declared.block.StagedBlock.{StagedBlock}
@@ -43,9 +42,11 @@ use Rattle.zs_scan.specs.Covered.{MayBeChecked, AllAreChecked}
 use Rattle.zs_scan.specs.Steps.{no_scope}
 use Rattle.zs_machine.specs.Status.{TellsStatus, kind_word, counted}
 use Rattle.zs_machine.specs.Errors.{TellsErrors}
+use Rattle.zs_machine.specs.Listing.{TellsList}
 use Rattle.zs_machine.specs.declared.event.OpenRead.{OpenRead}
 use Rattle.zs_machine.specs.Machine.{PoolState, Txg, Data, ScanState, staged_record, record_sectors, is_running, is_at_work}
 use Rattle.zs_ids.specs.GraphTree.{dataset_named}
+use Rattle.zs_ids.specs.GraphValid.{origin}
 use Rattle.zs_machine.specs.Replies.{task_reply, after_queued, make_refusal, write_refusal, read_refusal, task_answers, after_tasks}
 
 -- a transaction group in which nothing is staged or queued
@@ -108,11 +109,16 @@ TaskStep s by queued answer t = (answer ≡ task_reply s) × (t ≡ after_queued
 -- a command that stages a record or queues a task
 abbrev pub CommandStep : PoolState → ℕ → Command → Reply → PoolState → Type 0
 CommandStep s by (command.Fs name) answer t = TaskStep s by (task.Fs name) answer t
+CommandStep s by (command.Snap head label) answer t = TaskStep s by (task.Snap head label) answer t
+CommandStep s by (command.Clone ds name) answer t = TaskStep s by (task.Clone ds name) answer t
+CommandStep s by (command.Destroy ds) answer t = TaskStep s by (task.Destroy ds) answer t
+CommandStep s by (command.Swap first second) answer t = TaskStep s by (task.Swap first second) answer t
 CommandStep s by command.Scrub answer t = TaskStep s by task.Scrub answer t
 CommandStep s by (command.Make ds object levels size fill) answer t = MakeStep s ds object size fill answer t
 CommandStep s by (command.Write ds object leaf fill) answer t = WriteStep s ds object leaf fill answer t
 CommandStep s by command.Status answer t = TellsStatus s answer × (t ≡ s)
 CommandStep s by command.Errors answer t = TellsErrors s answer × (t ≡ s)
+CommandStep s by command.List answer t = TellsList s answer × (t ≡ s)
 CommandStep s by _ answer t = ⊥
 
 -- a line whose events stand before it, with its reply: what a `sync` and a `finish` did is told by the replies of those
@@ -152,15 +158,11 @@ pub record AreChanges (entries : List (Key × Bp)) (staged : List (Slot × Stagi
   pub made : AreBlocksOf (bp_at entries) txg (map entry_of staged) blocks
   pub pointers : changes ≡ pointers_of blocks
 
--- entries with others put over them
-abbrev pub all_replaced : List (Key × Bp) → List (Key × Bp) → List (Key × Bp)
-all_replaced entries changes = fold (λ m e. replaced m e.0 e.1) entries changes
-
 -- a dataset with the blocks that were staged for it put over its own
 pub record IsOverwritten (txg : ℕ) (staged : List (Slot × Staging)) (old new : Dataset) : Type 0 where
   pub changes : List (Key × Bp)
   pub are_changes : AreChanges old.entries staged txg changes
-  pub is : new ≡ record old { entries = all_replaced old.entries changes }
+  pub is : new ≡ record old { entries = entries_with old.entries changes }
 
 -- a dataset for which nothing was staged stays, another is overwritten
 abbrev pub IsWritten : ℕ → List (Slot × Staging) → Dataset → Dataset → Type 0
@@ -271,18 +273,11 @@ pub record ReadEndStep (s : PoolState) (by : ℕ) (p : ReadPlan) (answer : Reply
   pub answers : IsReadAnswer read p answer
   pub closed : t ≡ record s { reads = before ++ after }
 
--- no name
-abbrev pub no_name : Name
-no_name = record { len = 0; bytes = 0 ∷ 0 ∷ 0 ∷ 0 ∷ 0 ∷ 0 ∷ 0 ∷ 0 ∷ 0 ∷ 0 ∷ 0 ∷ 0 ∷ [] }
-
 -- no scan was started yet, over so many devices in mirrors of that width
 abbrev pub no_scan : ℕ → ℕ → ScanState
 no_scan devices width = record { scope = no_scope devices width; status = status.Never; paused = false; checked = []; saved = 0 }
 
 -- the pool of a `pool` line: the datasets are just the origin, and the empty transaction group 1 is closed
-abbrev pub origin : Dataset
-origin = record { id = record { 0 = 0 }; head = false; owner = no_name; label = no_name; parent = None; creation = 1; entries = [] }
-
 abbrev pub blank_state : ℕ → ℕ → PoolState
 blank_state width devices = record {
   graph = origin ∷ [];
@@ -318,9 +313,15 @@ IsSyncing stage.Between = ⊥
 IsSyncing stage.Writing = Unit {0}
 IsSyncing stage.Labelling = Unit {0}
 
--- the state of a pool that was suspended
-abbrev pub halted : PoolState → PoolState
-halted s = record s { suspended = true; stage = stage.Between }
+-- a pool was suspended because memory was wanting in its sync, which goes on no more. How much of the closed transaction
+-- group its datasets and its scan have is left open; what is open is as it was
+pub record IsHalted (s t : PoolState) : Type 0 where
+  pub suspended : t.suspended ≡ true
+  pub between : t.stage ≡ stage.Between
+  pub devices : t.devices ≡ s.devices
+  pub online : t.online ≡ s.online
+  pub reads : t.reads ≡ s.reads
+  pub open_txg : t.open_txg ≡ s.open_txg
 
 -- one step of the machine. No device fails in the writes of a sync's data. A pool that is suspended takes no turn and no
 -- batch, and makes no sync; what was read from its devices by then may still come in
@@ -346,7 +347,7 @@ Steps s e t = steps e.step e.reply
         (answer ≡ committed_reply s) × (s.suspended ≡ false) × (online ≡ s.online) × (s.stage ≡ stage.Labelling)
         × (t ≡ record s { stage = stage.Between })
     steps (step.Suspend online why) answer =
-        (answer ≡ reply.Nothing) × (s.suspended ≡ false) × (online ≡ s.online) × IsSyncing s.stage × (t ≡ halted s)
+        (answer ≡ reply.Nothing) × (s.suspended ≡ false) × (online ≡ s.online) × IsSyncing s.stage × IsHalted s t
     steps (step.ReadBegin (command.Read ds object leaf) planned) answer = ReadBeginStep s e.by ds object leaf planned answer t
     steps (step.ReadBegin c planned) answer = ⊥
     steps (step.ReadEnd p places) answer = ReadEndStep s e.by p answer t

@@ -5,7 +5,6 @@ use Rattle.std.specs.Prelude.{Result}
 use Rattle.std.proofs.lemmas.Bool.{cases_lt}
 use Rattle.zs_objset.specs.declared.block.CommitFault.{CommitFault}
 use Rattle.std.proofs.lemmas.List.Elements.{All-nil, All-cons, All-head, All-tail}
-use Rattle.std.proofs.lemmas.List.Sorted.{All-permutation}
 use Rattle.zs_ids.specs.declared.block.Bp.{Bp}
 use Rattle.zs_ids.specs.declared.block.Item.{Item}
 use Rattle.zs_ids.specs.declared.block.Marks.{Marks}
@@ -97,7 +96,8 @@ pub were_written : (width : ℕ) (blocks : List StagedBlock) (pointers : List (K
     → pointers_of blocks ≡ pointers → PutsBlocks width blocks marks.places before after → marks.failed ≡ 0 → AreItemsOf pointers items → WereWritten width marks items before after
 were_written width blocks pointers marks items before after named puts none are = record {
   blocks = blocks;
-  born = λ i here. has_all (IsOneOf blocks) items i (All-permutation (IsOneOf blocks) (map (λ (c : Key × Bp). item_of c.1) (pointers_of blocks)) items (subst (λ (ps : List (Key × Bp)). AreItemsOf ps items) (sym named) are) (ones blocks blocks (λ b h. h))) here;
+  born = λ i here. has_all (IsOneOf blocks) (map (λ (c : Key × Bp). item_of c.1) (pointers_of blocks)) i (ones blocks blocks (λ b h. h))
+      (subst (λ (ps : List (Key × Bp)). Has (map (λ (c : Key × Bp). item_of c.1) ps) i) (sym named) (are.each i here));
   puts = puts;
   none_failed = none;
 }

@@ -132,10 +132,15 @@ pub fn run_line<C: Children>(
     let by = line.by;
     match &line.command {
         Command::Fs { .. }
+        | Command::Snap { .. }
+        | Command::Clone { .. }
+        | Command::Destroy { .. }
+        | Command::Swap { .. }
         | Command::Scrub
         | Command::Make { .. }
         | Command::Write { .. }
         | Command::Errors
+        | Command::List
         | Command::Status => command(pool, line),
         Command::Sync => end_sync(pool, rig, by),
         Command::Walk { turns } => walk(alloc, pool, by, *turns),

@@ -1,12 +1,22 @@
-use Rattle.std.proofs.Common.{arith}
-use Rattle.zs_core.proofs.Ran.{runs_both}
-use Rattle.zs_core.proofs.NextTask.{answers_more, after_more}
+use Rattle.std.proofs.Common.{ℕ, arith, subst}
+use Rattle.zs_core.specs.Running.{RunsOn}
+use Rattle.zs_core.proofs.RunsOn.{runs_both}
+use Rattle.zs_core.proofs.NextTask.{answers_more, after_more, seen_more}
 use Rattle.zs_core.proofs.tasks.run_tasks.Goals as goal
 
+pub returns-in_err-refusal-clause-runs_on : goal.returns-in_err-refusal-clause-runs_on
+returns-in_err-refusal-clause-runs_on c =
+    subst (λ (n : ℕ). RunsOn n c.args.graph.now.sets c.args.scan.now c.args.items.now.items c.run_task.new.graph.sets c.run_task.new.scan c.run_task.new.items.items) c.txg-number.ensures
+    (runs_both c.txg-number.result _ _ _ _ _ _ _ _ _ c.loop-task.invariant.runs_on c.run_task.ensures.runs_on)
+
 pub loop-task-preserved : goal.loop-task-preserved
-loop-task-preserved c = record {
-  answers = answers_more c.txg-number.result _ _ c.queued-task-items.result.now c.loop-task.task-index _ c.loop-task.answers.items c.push_reserved.new.self.items _ c.run_task-refusal.result c.loop-task-test.true c.run_task-refusal.ensures.refusal c.run_task-refusal.ensures.after c.push_reserved.ensures.items c.loop-task.invariant.answers;
-  room = omega (arith, c.loop-task.invariant.room, c.push_reserved.ensures.len, c.push_reserved.ensures.capacity);
-  after = after_more c.txg-number.result _ _ _ c.queued-task-items.result.now c.loop-task.task-index _ c.loop-task-test.true c.run_task-refusal.ensures.after c.loop-task.invariant.after;
-  runs_on = runs_both c.txg-number.result c.args.heads.now.head c.loop-task.heads.head c.run_task-refusal.new.heads.head c.args.scan.now c.loop-task.scan c.run_task-refusal.new.scan c.loop-task.invariant.runs_on c.run_task-refusal.ensures.runs_on;
-}
+loop-task-preserved c =
+    let ran = c.in_ok-refusal.ensures.ran in
+    record {
+      up_to = c.run_task.ensures.runs_on.up_to c.loop-task.invariant.up_to;
+      answers = answers_more c.txg-number.result _ _ c.queued-task-items.result.now c.loop-task.task-index _ c.loop-task.answers.items c.push_reserved.new.self.items _ c.in_ok-refusal.refusal c.loop-task-test.true ran.answer ran.after c.push_reserved.ensures.items c.loop-task.invariant.answers;
+      room = omega (arith, c.loop-task.invariant.room, c.push_reserved.ensures.len, c.push_reserved.ensures.capacity);
+      after = after_more c.txg-number.result _ _ _ c.queued-task-items.result.now c.loop-task.task-index _ c.loop-task-test.true ran.after c.loop-task.invariant.after;
+      ran = seen_more c.txg-number.result _ _ _ c.queued-task-items.result.now c.args.txg.now.tasks c.loop-task.task-index _ c.args.scan.now c.loop-task.scan c.run_task.new.scan c.loop-task-test.true ran.seen ran.after c.loop-task.invariant.ran;
+      runs_on = runs_both c.txg-number.result _ _ _ _ _ _ _ _ _ c.loop-task.invariant.runs_on c.run_task.ensures.runs_on;
+    }

@@ -1,0 +1,7 @@
+-- What was collected is sorted, and nothing else.
+use Rattle.std.proofs.Common.{rules}
+use Rattle.std.proofs.lemmas.List.Sorted.{answers_always}
+use Rattle.zs_core.proofs.born.items_of.Goals as goal
+
+pub returns-clause-sorted : goal.returns-clause-sorted
+returns-clause-sorted c = c.sort_unstable_by_key.ensures.sorted (λ i. i.piece) (answers_always _ _ _ (λ f a r g h. search rules))
