@@ -1,92 +1,31 @@
-"""Random scripts and images, and lists of lines that are faulty or nearly so."""
-import random
-from pool import U64, Pool, data_start
-
-# ---- the generator: it runs the model beside, so that it knows what is worth a line
-BAD = [b'pool 7 2 8 4 64', b'fs', b'fs b', b'fs B', b'fs abcdefghijklm', b'sync x', b'scrub x', b'scrub address',
-       b'make a 0 1 512 1', b'make a 1 2 512 1', b'make a 1 1 511 1', b'make a 1 1 1024 18446744073709551616',
-       b'make a 1 1 262144 1', b'make a 01 1 512 1', b'make a@ 1 1 512 1', b'make @a 1 1 512 1',
-       b'make a@b@c 1 1 512 1', b'make A x 1 512 1', b'make a 1 1 512 -1', b'make a 1 1 512 +1', b'make',
-       b'read a 1 262144', b'read a 2048 0', b'read a 1', b'   ', b'\tsync', b'sync\t', b'sync\r', b'sy\rnc',
-       b'sync\x7f', b'\xffsync', b'# c\xff', b'', b' # x', b'finish 1', b'finish x']
-LATER = [b'open', b'reopen', b'list', b'snap a s', b'clone a@s b', b'destroy a', b'swap a b',
-         b'pause', b'resume', b'stop', b'resilver', b'offline 1', b'online 1', b'strategy address', b'strategy score',
-         b'progress', b'1 sync', b'Walk 1', b'LAND', b'walk\t1', b'stat', b'statuss', b'rott 0 296 1', b'ROT 0 296 1', b'error', b'Errors', b'destroy', b'lan',
-         b'hold\x00 0 1', b'$origin', b'walk-1', b'rechecked', b'rebuild 1']
-NEWBAD = [b'walk', b'walk 0', b'walk 01', b'walk 1000001', b'walk 1000000', b'walk x', b'walk 1 2', b'walk -1',
-          b'walk 18446744073709551617', b'walk +1', b'walk 1.', b'walk 4294967297',
-          b'issue', b'issue 0', b'issue 0 0', b'issue 0 1025', b'issue 256 1', b'issue 0 1024', b'issue 255 1024',
-          b'issue 00 1', b'issue 0 1 1', b'issue x', b'issue a 1', b'issue 0 a', b'issue -1 1', b'issue 0 01',
-          b'issue 4294967296 1', b'issue 0 4294967297', b'issue 1 1', b'issue 0  1',
-          b'hold', b'hold 0', b'hold 0 0', b'hold 0 1025', b'hold 256 1', b'hold 0 1024', b'hold 255 1024', b'hold 00 1',
-          b'hold 0 1 1', b'hold x', b'hold a 1', b'hold 0 a', b'hold 256 0', b'hold 65536 1', b'hold 1 1',
-          b'land 0', b'land x', b'land 0 1', b'status x', b'status 0', b'status status', b'land', b'status',
-          b'write', b'write a 1 0', b'write a 1 0 5 6', b'write a 0 0 5', b'write a 2048 0 5', b'write a 1 262144 5',
-          b'write a 1 262143 5', b'write a 1 0 18446744073709551616', b'write a 1 0 18446744073709551615',
-          b'write a 1 0 -1', b'write a@ 1 0 5', b'write @a 1 0 5', b'write a@s 1 0 5', b'write a@s@t 1 0 5',
-          b'write A x', b'write A x 0 5', b'write a x 0 5', b'write a 1 x 5', b'write a 1 0 x', b'write a 01 0 5',
-          b'write a 1 00 5', b'write a 1 0 05', b'write abcdefghijklm 1 0 5', b'write $origin 1 0 5', b'write b 1 0 5',
-          b'write a 65537 0 5', b'write a 1 4294967296 5', b'write A 0 0 5', b'write a 0 262144 5',
-          b'rot', b'rot 0', b'rot 0 300', b'rot 0 300 1 1', b'rot x', b'rot x 300 1', b'rot 0 x 1', b'rot 0 300 x',
-          b'rot 00 300 1', b'rot 0 0300 1', b'rot 0 300 01', b'rot -1 300 1', b'rot 0 -1 1', b'rot 0 300 -1',
-          b'rot 256 300 1', b'rot 255 300 1', b'rot 2 300 1', b'rot 2 0 1', b'rot 1 300 1', b'rot 0  312   1',
-          b'rot 0 2097152 1', b'rot 0 2097151 1', b'rot 0 2097151 65536', b'rot 4294967296 300 1', b'rot 0 4294967592 1',
-          b'rot 0 300 0', b'rot 0 300 65537', b'rot 0 300 65536', b'rot 0 300 4294967297', b'rot 256 2097152 0',
-          b'rot 0 0 1', b'rot 0 295 1', b'rot 0 295 2', b'rot 0 296 1', b'rot 0 296 104', b'rot 0 296 105',
-          b'rot 1 399 1', b'rot 1 399 2', b'rot 1 400 1', b'errors', b'errors 0', b'errors x', b'errors errors']
-
-
-def spoil(rng, L):
-    """One to two faults, or near misses."""
-    bad = BAD+LATER+NEWBAD
-    for _ in range(rng.randrange(1, 3)):
-        i = rng.randrange(len(L)+1)
-        if rng.random() < .75: L.insert(i, rng.choice(bad if rng.random() < .6 else NEWBAD))
-        elif L:
-            j = rng.randrange(len(L))
-            l = L[j]
-            if l:
-                q = rng.randrange(len(l))
-                b = bytes([rng.choice([32, 48, 57, 97, 64, 13, 35, 126, 31])])
-                L[j] = l[:q]+b+l[q+rng.randrange(2):]
-
-
-def decorate(rng, L):
-    """Spaces, CRs, blank and comment lines that change nothing (but a CR at the very end)."""
-    def deco(l):
-        if rng.random() < .07: l = b'  '+l
-        if rng.random() < .07: l = l.replace(b' ', b'   ')
-        if rng.random() < .07: l = l+b' '
-        if rng.random() < .07: l = l+b'\r'
-        return l
-    L = [deco(l) for l in L]
-    for _ in range(rng.randrange(3)): L.insert(rng.randrange(len(L)+1), rng.choice([b'', b'# hello', b'\r']))
-    s = b'\n'.join(L)
-    if rng.random() < .8: s += b'\n'
-    elif L and L[-1].endswith(b'\r') and rng.random() < .8: s = s[:-1]
-    if rng.random() < .01: s = rng.choice([b'', b'\n', b'# x\n', b'# x\n   \n', b'\r\n', b'\r', b'walk 1\n', b'status\n', b'land'])
-    return s
-
+"""Random scripts and images. The generator runs the model beside, so that it knows what is worth a line."""
+from faulty import decorate, spoil
+from lines import U64
+from pool import Pool, data_start
 
 # weights of the actions; 'vdev' is a batch of another mirror
 ACTS = ['fs', 'make', 'write', 'read', 'sync', 'scrub', 'finish', 'walk', 'walkall', 'issue', 'hold', 'land', 'status', 'vdev',
-        'rot', 'errors']
+        'rot', 'errors', 'snap', 'clone', 'destroy', 'swap', 'list']
 PROFILES = {
-    'mixed':  [4, 6, 8, 5, 8, 4, 3, 10, 4, 7, 7, 6, 8, 1, 5, 2],
-    'hold':   [4, 3, 14, 3, 12, 4, 2, 8, 6, 3, 14, 7, 6, 1, 6, 1],
-    'steps':  [4, 4, 8, 3, 7, 3, 1, 25, 1, 6, 6, 4, 10, 1, 3, 1],
-    'finish': [4, 6, 8, 4, 8, 10, 12, 7, 3, 3, 5, 2, 5, 0, 6, 3],
-    'full':   [3, 8, 5, 3, 5, 4, 3, 6, 14, 9, 8, 5, 6, 1, 3, 1],
-    'rot':    [4, 5, 8, 8, 7, 8, 8, 6, 6, 7, 6, 6, 5, 0, 18, 6],
+    'mixed':  [2, 6, 8, 5, 8, 4, 3, 10, 4, 7, 7, 6, 8, 1, 5, 2, 4, 3, 3, 2, 2],
+    'hold':   [1, 3, 14, 3, 12, 4, 2, 8, 6, 3, 14, 7, 6, 1, 6, 1, 3, 2, 4, 1, 1],
+    'steps':  [1, 4, 8, 3, 7, 3, 1, 25, 1, 6, 6, 4, 10, 1, 3, 1, 3, 2, 3, 2, 1],
+    'finish': [2, 6, 8, 4, 8, 10, 12, 7, 3, 3, 5, 2, 5, 0, 6, 3, 3, 2, 3, 2, 1],
+    'full':   [1, 8, 5, 3, 5, 4, 3, 6, 14, 9, 8, 5, 6, 1, 3, 1, 3, 2, 3, 1, 1],
+    'rot':    [1, 5, 8, 8, 7, 8, 8, 6, 6, 7, 6, 6, 5, 0, 18, 6, 2, 2, 2, 1, 1],
+    'tree':   [5, 5, 12, 4, 14, 3, 1, 14, 2, 4, 4, 4, 9, 0, 1, 1, 15, 12, 16, 10, 6],
+    'names':  [14, 4, 4, 6, 14, 2, 1, 5, 1, 1, 1, 1, 5, 0, 0, 0, 20, 20, 22, 16, 9],
 }
+TASK_ACTS = ['snap', 'destroy', 'clone', 'swap', 'fs']
 
 
 class Gen:
-    def __init__(self, rng, pool, nm):
-        self.rng, self.pool, self.nm = rng, pool, nm
+    def __init__(self, rng, pool):
+        self.rng, self.pool = rng, pool
         self.lines = []
         self.rots = []
-        self.fsd = False
+        self.names = rng.sample([b'a', b'b', b'c', b'0', b'abcdefghij12', b's', b'k9'], rng.choice([1, 2, 2, 3, 3, 3, 4, 5]))
+        self.labels = rng.sample([b's', b't', b'1', b'a', b'abcdefghij12', b'x2'], rng.choice([1, 2, 3, 3, 4, 5]))
         k = rng.choice([1, 2, 3, 5, 8])
         near = rng.randrange(1, 2048)
         self.objs = [rng.choice([1, 2, 31, 32, 33, 63, 64, 2047, near, min(2047, near+1), rng.randrange(1, 2048)]) for _ in range(k)]
@@ -98,24 +37,94 @@ class Gen:
             self.pool.line(c, a)
             self.pool.invariant()
         except AssertionError:
-            print(b'\n'.join(self.lines))
+            print(b'\n'.join(self.lines).decode())
             raise
 
-    def ds(self): return self.rng.choice([self.nm]*30+[b'b', self.nm+b'@s'])
-    def obj(self, there):
-        got = [k[0] for k in list(self.pool.map)+list(self.pool.staged) if k[1] == 1]
+    # ---- names; with the weight `other` any name, also of nothing
+    def pick(self, sets):
+        """One of the datasets, often one that the walk is at, or that is in todo."""
+        near = [d for d in sets if d in self.pool.scan.pending()]
+        return self.rng.choice(near if near and self.rng.random() < .5 else sets)
+
+    def queued(self, word): return [a for c, a in self.pool.tasks if c == word]
+
+    def head(self, other=.06):
+        heads = self.pool.sets.heads()
+        if heads and self.rng.random() > other: return self.pick(heads).name
+        return self.rng.choice(self.names)
+
+    def snapshot(self, other=.06):
+        there = self.pool.sets.snapshots()
+        soon = [a[0]+b'@'+a[1] for a in self.queued(b'snap')]
+        if soon and self.rng.random() < .4: return self.rng.choice(soon)
+        if there and self.rng.random() > other: return self.pick(there).name
+        return self.rng.choice(self.names)+b'@'+self.rng.choice(self.labels)
+
+    def fresh(self, other=.15):
+        """A name for a head that is not there."""
+        used = [d.name for d in self.pool.sets.heads()] + [a[-1] for c in (b'fs', b'clone') for a in self.queued(c)]
+        free = [n for n in self.names if n not in used]
+        if free and self.rng.random() > other: return self.rng.choice(free)
+        return self.rng.choice(self.names) if self.rng.random() < .7 else b'n%d' % self.rng.randrange(100)
+
+    def ds(self, snapshots=.03):
+        """Mostly of something that has objects."""
+        full = [d for d in self.pool.sets.all.values() if d.blocks and (not d.is_head) == (self.rng.random() < snapshots)]
+        if full and self.rng.random() < .85: return self.pick(full).name
+        return self.snapshot() if self.rng.random() < snapshots else self.head(.03)
+
+    def obj(self, there, name):
+        p = self.pool
+        keys = [k for d in p.sets.all.values() if d.name == name for k in d.blocks]
+        got = [k[0] for k in keys + [k for d, k in p.staged if d.name == name] if k[1] == 1]
         if there and got and self.rng.random() < .9: return self.rng.choice(got)
         fresh = [o for o in self.objs if o not in got]
         if not there and fresh and self.rng.random() < .7: return self.rng.choice(fresh)
         return self.rng.choice(self.objs) if self.rng.random() < .97 else self.rng.randrange(1, 2048)
+
+    # ---- lines that queue a task on datasets
+    def snap(self):
+        name = self.head()
+        used = [d.label for d in self.pool.sets.snapshots() if d.owner == name] + [a[1] for a in self.queued(b'snap') if a[0] == name]
+        free = [l for l in self.labels if l not in used]
+        if not free and self.rng.random() < .5: free = [b'%d' % self.rng.randrange(1000)]
+        self.put(b'snap %s %s' % (name, self.rng.choice(free if free and self.rng.random() < .85 else self.labels)))
+
+    def clone(self): self.put(b'clone %s %s' % (self.snapshot() if self.rng.random() < .93 else self.head(), self.fresh()))
+
+    def destroy(self):
+        sets, r = self.pool.sets, self.rng.random()
+        inner = [d for d in sets.snapshots() if len(sets.children(d)) == 1]
+        bare = [d for d in sets.heads() if d.parent.owner != d.owner]
+        if r < .6 and inner: name = self.pick(inner).name
+        elif r < .7: name = self.snapshot()
+        elif r < .92 and bare: name = self.pick(bare).name
+        else: name = self.head(.2)
+        self.put(b'destroy '+name)
+
+    def swap(self):
+        heads = self.pool.sets.heads()
+        pairs = [(a, b) for a in heads for b in heads if a is not b and a.parent is b.parent]
+        near = [p for p in pairs if self.pool.scan.pending().intersection(p)]
+        if near and self.rng.random() < .6: pairs = near
+        if pairs and self.rng.random() < .75: self.put(b'swap %s %s' % tuple(d.name for d in self.rng.choice(pairs)))
+        else: self.put(b'swap %s %s' % (self.head(), self.head()))
+
+    def tasks(self, most):
+        """Some tasks on datasets, of which many fit together."""
+        rng = self.rng
+        for _ in range(rng.randrange(1, most+1)): self.act(rng.choices(TASK_ACTS, [5, 6, 3, 3, 1])[0])
+        if rng.random() < .1: self.act('list')
+
+    # ---- other lines
     def fill(self): return self.rng.choice([0, 5, U64, self.rng.randrange(2**64), self.rng.randrange(100)])
     def n(self): return self.rng.choice([1, 1, 1, 2, 2, 3, 4, 10, 1024])
 
     def span(self, kind=None):
         """Sectors to rot: on what is live, in flight or staged, over several of these, free, or at an edge."""
         rng, p = self.rng, self.pool
-        live = [(b.place, b.sectors) for b in p.map.values()]
-        held = [(q[0], p.items[q][0]) for batch in p.flight for q, _ in batch]
+        live = [(q[0], p.items[q][0]) for q in sorted(p.sets.live())]
+        held = [(q[0], p.items[q][0]) for batch in p.scan.flight for q, _ in batch]
         staged = [(e[0], e[1]) for e in p.staged.values()]
         kind = kind or rng.choices(['live', 'held', 'staged', 'run', 'free', 'edge'], [14, 6 if held else 0, 2, 2, 1, 2])[0]
         if kind == 'edge' or (kind == 'free' and p.next == p.end):
@@ -149,16 +158,23 @@ class Gen:
 
     def act(self, what):
         rng = self.rng
-        if what == 'fs':
-            if self.fsd: return
-            self.fsd = True
-            self.put(b'fs '+self.nm)
+        p = self.pool
+        if what in ('make', 'write') and p.end-p.next < 20 and rng.random() < .6: what = 'read'
+        if what == 'write' and not any(d.blocks for d in p.sets.heads()) and rng.random() < .7: what = 'make'
+        if what == 'clone' and not p.sets.snapshots() and not self.queued(b'snap') and rng.random() < .7: what = 'snap'
+        if what in ('snap', 'make') and not p.sets.heads() and rng.random() < .7: what = 'fs'
+        if what == 'fs': self.put(b'fs '+self.fresh())
+        elif what in ('snap', 'clone', 'destroy', 'swap'): getattr(self, what)()
         elif what == 'make':
             size = rng.choice([512, 512, 512, 1024, 4096] + ([131072] if rng.random() < .2 else []))
-            self.put(b'make %s %d 1 %d %d' % (self.ds(), self.obj(rng.random() < .15), size, self.fill()))
+            ds = self.ds()
+            self.put(b'make %s %d 1 %d %d' % (ds, self.obj(rng.random() < .15, ds), size, self.fill()))
         elif what == 'write':
-            self.put(b'write %s %d %d %d' % (self.ds(), self.obj(True), rng.choice([0]*18+[1, 262143]), self.fill()))
-        elif what == 'read': self.put(b'read %s %d %d' % (self.ds(), self.obj(True), rng.choice([0]*12+[1, 262143])))
+            ds = self.ds()
+            self.put(b'write %s %d %d %d' % (ds, self.obj(True, ds), rng.choice([0]*18+[1, 262143]), self.fill()))
+        elif what == 'read':
+            ds = self.ds(.4 if p.sets.snapshots() else .1)
+            self.put(b'read %s %d %d' % (ds, self.obj(True, ds), rng.choice([0]*12+[1, 262143])))
         elif what == 'walk': self.put(b'walk %d' % rng.choice([1, 1, 1, 1, 2, 2, 3, 4, 5, 6]))
         elif what == 'walkall': self.put(b'walk %d' % rng.choice([7, 8, 20, 100, 1000000]))
         elif what == 'issue': self.put(b'issue 0 %d' % self.n())
@@ -169,16 +185,22 @@ class Gen:
         elif what == 'vdev': self.put(rng.choice([b'issue', b'hold'])+b' %d %d' % (rng.choice([1, 2, 255]), self.n()))
         else: self.put(what.encode())
 
-    def round(self):
-        """Some walk, batches taken, blocks replaced under them, and all landed; each part may lack."""
-        rng, p = self.rng, self.pool
-        if p.status != 'scanning' and rng.random() < .8:
+    # ---- rounds
+    def scrub(self):
+        """Mostly starts a scrub where none runs."""
+        if not self.pool.scan.running and self.rng.random() < .8:
             self.act('scrub')
             self.act('sync')
+
+    def held(self):
+        """Some walk, batches taken, blocks replaced under them, and all landed; each part may lack."""
+        rng = self.rng
+        self.scrub()
         for _ in range(rng.choice([1, 1, 2, 3])):
             if rng.random() < .9: self.act(rng.choice(['walk', 'walk', 'walkall']))
             if rng.random() < .8: self.put(b'%s 0 %d' % (rng.choice([b'hold', b'hold', b'hold', b'issue']), rng.choice([1, 2, 3, 4, 1024])))
         for _ in range(rng.choice([0, 1, 1, 1, 2])): self.act(rng.choice(['write', 'write', 'write', 'make']))
+        if rng.random() < .4: self.tasks(2)
         if rng.random() < .3: self.act(rng.choice(['issue', 'hold', 'walk', 'read', 'scrub']))
         if rng.random() < .8: self.act('sync')
         if rng.random() < .3: self.act(rng.choice(['status', 'read', 'issue']))
@@ -186,47 +208,103 @@ class Gen:
         if rng.random() < .75: self.act('land')
         if rng.random() < .3: self.act(rng.choice(['status', 'sync', 'finish', 'errors']))
 
+    def shaken(self):
+        """The walk goes on by small steps while the datasets change under it."""
+        rng = self.rng
+        self.scrub()
+        for _ in range(rng.choice([1, 2, 3, 4, 6])):
+            self.put(b'walk %d' % rng.choice([1, 1, 2, 2, 3, 4, 5, 8, 13]))
+            if rng.random() < .4: self.act(rng.choice(['issue', 'issue', 'hold', 'land']))
+            for _ in range(rng.choice([0, 0, 1, 2])): self.act('write')
+            if rng.random() < .8: self.tasks(3)
+            if rng.random() < .9: self.act('sync')
+            if rng.random() < .5: self.act('status')
+        if rng.random() < .5: self.act('walkall')
+        if rng.random() < .3: self.act('finish')
+
+    def chased(self):
+        """Tasks on the very dataset that the walk is at, time and again."""
+        rng, sets = self.rng, self.pool.sets
+        self.scrub()
+        for _ in range(rng.choice([2, 3, 5, 8])):
+            self.put(b'walk %d' % rng.choice([1, 1, 1, 2, 3]))
+            d = self.pool.scan.stands_at
+            if d is None or d is sets.origin: continue
+            beside = [h for h in sets.heads() if h is not d and h.parent is d.parent]
+            what = rng.choice(['snap', 'swap', 'destroy', 'write', None] if d.is_head else ['destroy', 'destroy', 'destroy', 'clone', None])
+            if what == 'snap': self.put(b'snap %s %s' % (d.name, rng.choice(self.labels)))
+            elif what == 'swap' and beside: self.put(b'swap %s %s' % (d.name, rng.choice(beside).name))
+            elif what == 'destroy': self.put(b'destroy '+d.name)
+            elif what == 'clone': self.put(b'clone %s %s' % (d.name, self.fresh()))
+            elif what: self.act('write')
+            else: self.tasks(2)
+            if rng.random() < .8: self.act('sync')
+            if rng.random() < .4: self.act('status')
+
+    def grown(self):
+        """A txg of a tree that grows: records, snapshots, clones."""
+        rng = self.rng
+        for _ in range(rng.choice([0, 1, 1, 2, 3])): self.act('write')
+        if rng.random() < .3: self.act('make')
+        for _ in range(rng.choice([0, 1, 1, 2, 3])): self.act(rng.choice(['snap', 'snap', 'snap', 'clone', 'clone', 'fs', 'swap', 'destroy']))
+        self.act('sync')
+
     def start(self):
-        """Mostly a head with some objects, and a scrub."""
+        """Mostly some heads with objects, and a scrub."""
         rng = self.rng
         if rng.random() < .15: return
-        self.act('fs')
+        if rng.random() < .01:
+            for i in range(rng.choice([252, 253, 254])): self.put(b'fs n%d' % i)
+        for _ in range(rng.choice([1, 1, 2, 3])): self.act('fs')
         self.act('sync')
         for _ in range(rng.choice([0, 1, 1, 2, 3, 6])): self.act('make')
         if rng.random() < .9: self.act('sync')
+        if rng.random() < .6:
+            for _ in range(rng.choice([1, 2, 3, 5, 8])): self.grown()
         if rng.random() < .6:
             self.act('scrub')
             if rng.random() < .2: self.act('make')
             self.act('sync')
 
-    def more(self, weights, length):
-        rng, p = self.rng, self.pool
+    def weights(self, profile):
+        w = dict(zip(ACTS, profile))
+        p, scan = self.pool, self.pool.scan
+        heads = p.sets.heads()
+        if not heads:
+            for k in ('make', 'write', 'read', 'snap', 'swap', 'destroy'): w[k] /= 4
+            w['fs'] *= 3
+        if len(heads) > 4: w['fs'] /= 4
+        if not p.sets.snapshots(): w['clone'] /= 3
+        if p.tasks: w['sync'] *= 1+len(p.tasks)/3
+        if not p.sets.live(): w['rot'] /= 5
+        if scan.status == 'none': w['errors'] /= 5
+        if not scan.running:
+            for k in ('walk', 'walkall', 'issue', 'hold', 'land', 'vdev'): w[k] /= 6
+            w['scrub'] *= 2
+            w['finish'] /= 4
+            if self.queued(b'scrub'): w['sync'] *= 3
+            return w
+        w['scrub'] /= 5
+        if scan.waiting:
+            w['write'] *= 1.5
+            w['sync'] *= 1.3
+        else:
+            w['issue'] /= 5
+            w['hold'] /= 5
+        if len(scan.waiting) == scan.limit: w['walk'] /= 3
+        if not scan.flight: w['land'] /= 8
+        if not scan.todo and scan.at is None: w['walk'] /= 4
+        if scan.complete(): w['sync'] *= 2
+        return w
+
+    def more(self, name, length):
+        rng = self.rng
         for _ in range(length):
-            w = dict(zip(ACTS, weights))
-            if p.head is None:
-                for k in ('make', 'write', 'read'): w[k] /= 4
-                if p.tasks: w['sync'] *= 3
-            if not p.map: w['rot'] /= 5
-            if p.status == 'none': w['errors'] /= 5
-            if p.status != 'scanning':
-                for k in ('walk', 'walkall', 'issue', 'hold', 'land', 'vdev'): w[k] /= 6
-                w['scrub'] *= 2
-                w['finish'] /= 4
-                if any(c == b'scrub' for c, _ in p.tasks): w['sync'] *= 5
-            else:
-                w['scrub'] /= 5
-                if not p.waiting:
-                    w['issue'] /= 5
-                    w['hold'] /= 5
-                else:
-                    w['write'] *= 1.5
-                    w['sync'] *= 1.3
-                if len(p.waiting) == p.limit: w['walk'] /= 3
-                if not p.flight: w['land'] /= 8
-                if not p.todo and p.at is None: w['walk'] /= 4
-                if p.complete(): w['sync'] *= 2
-            if not self.fsd and rng.random() < .4: self.act('fs')
-            if rng.random() < .07: self.round()
+            r = rng.random()
+            if r < .07: self.held()
+            elif r < (.2 if name == 'tree' else .1): self.shaken()
+            elif r < (.3 if name == 'tree' else .12): self.chased()
+            w = self.weights(PROFILES[name])
             self.act(rng.choices(ACTS, [w[k] for k in ACTS])[0])
 
 
@@ -234,10 +312,11 @@ def gen(rng):
     """A script and images, the pool that the generator ran, and whether the script was spoiled."""
     W = rng.choice([1, 1, 2, 2, 2, 2, 3, 4])
     B = rng.choice([64, 64, 64, 64, 68, 100, 128]) if rng.random() < .985 else 65536
-    limit = rng.choice([1, 1, 2, 2, 3, 3, 5, 8, 8, 65536])
+    profile = rng.choice(['mixed', 'hold', 'hold', 'steps', 'full', 'finish', 'rot', 'rot', 'tree', 'tree', 'tree', 'names'])
+    limit = rng.choice([5, 8, 65536, 65536] if profile == 'tree' else [1, 1, 2, 2, 3, 3, 5, 8, 8, 65536])
     idn = rng.choice([0, 7, U64, rng.randrange(2**64)])
     start = data_start(B)
-    extra = rng.choice([31, 32, 33, 34, 50, 60, 100, 200, 200, 200, 400, 1000, 1000, 1000])
+    extra = rng.choice([31, 32, 33, 34, 50, 60, 100, 200, 200, 400, 700, 1000, 1000, 2000, 2000, 4000])
     if rng.random() < .97 and extra == 31: extra = 200
     uneven = rng.random() < .1
     imgs = []
@@ -249,12 +328,12 @@ def gen(rng):
         if rng.random() < .01 and len(im) > 0: im[rng.randrange(min(len(im), 4096))] = 1
         imgs.append(im)
     end = max(min(len(i)//512 for i in imgs), start+32)
-    g = Gen(rng, Pool(idn, W, limit, start, end, [bytearray(end*512) for _ in range(W)]), rng.choice([b'a', b'abcdefghij12', b'0']))
+    g = Gen(rng, Pool(idn, W, limit, start, end, [bytearray(end*512) for _ in range(W)]))
     g.start()
-    g.more(PROFILES[rng.choice(['mixed', 'mixed', 'hold', 'hold', 'steps', 'full', 'finish', 'rot', 'rot', 'rot'])],
-           rng.choice([0, 5, 10, 20, 40, 40, 60, 90]))
+    g.more(profile, rng.choice([0, 5, 10, 20, 40, 40, 60, 90]))
+    if rng.random() < .3: g.act('list')
     if rng.random() < .5: g.act('status')
     L = [b'pool %d %d %d %d %d' % (idn, W, limit, rng.choice([1, 4, 1000]), B)]+g.lines
-    spoiled = rng.random() < .2
+    spoiled = rng.random() < .12
     if spoiled: spoil(rng, L)
     return decorate(rng, L), imgs, g.pool, spoiled

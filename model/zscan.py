@@ -3,103 +3,17 @@
   zscan.py PROGRAM SEED COUNT       random scripts and images, PROGRAM against the model
   zscan.py --lines PROGRAM          every faulty or nearly faulty line of the lists, each in a script of its own
   zscan.py --shrink PROGRAM SEED    the script of one failing seed with lines taken out
-  zscan.py --stats SEED COUNT       the model alone: invariants, and what the scripts reach
+  zscan.py --stats SEED COUNT       the model alone: what the scripts reach
+  zscan.py --check SEED COUNT       the model alone: what has to hold, looked at after each step of every script
   zscan.py --show SEED              one script and the model's answer
   zscan.py --rows                   worked examples in the model alone
 """
 import collections, os, random, shutil, subprocess, sys, tempfile
-sys.dont_write_bytecode = True  # the folder keeps its three files
-from pool import run
-from scripts import BAD, LATER, NEWBAD, gen
-
-
-# ---- worked examples, purely in the model
-B7 = 'pool 7 2 8 4 64; fs a; sync; make a 1 1 512 5; sync'
-B1 = B7.replace('pool 7 2 8 4', 'pool 7 2 1 4')
-B_OUT = 'pool 7 mirrors 1 txg 1; queued 2 1; sync 2; task 1 ok; wrote a 1 0 3; sync 3'
-START, START_OUT = 'scrub; sync', 'queued 4 1; sync 4; task 1 ok'
-ROWS = [
-    ('a scrub of nothing', 512, 'pool 7 2 8 4 64; scrub; sync; finish; status',
-     'pool 7 mirrors 1 txg 1; queued 2 1; sync 2; task 1 ok; sync 3; finished scrub 0 0; txg 4;'
-     'scan scrub finished checked 0 errors 0 waiting 0 flight 0'),
-    ('a finish and a read', 512, f'{B7}; {START}; finish; read a 1 0',
-     f'{B_OUT}; {START_OUT}; sync 5; finished scrub 3 0; read a 1 0 0000000000000005'),
-    ('walk, issue, sync', 512, f'{B7}; {START}; walk 100; issue 0 10; sync',
-     f'{B_OUT}; {START_OUT}; walk 7 nothing waiting 3; issue 0 3 296:GG 304:GG 312:GG; sync 5; finished scrub 3 0'),
-    ('a record of the scrub\'s own group', 512, f'{B7}; scrub; make a 2 1 512 8; sync; walk 100; issue 0 10; sync',
-     f'{B_OUT}; queued 4 1; wrote a 2 0 4; sync 4; task 1 ok; walk 8 nothing waiting 1; issue 0 1 312:GG; sync 5;'
-     'finished scrub 1 0'),
-    ('a full queue', 512, f'{B1}; {START}; walk 100; issue 0 10; walk 100; issue 0 10; walk 100',
-     f'{B_OUT}; {START_OUT}; walk 4 full waiting 1; issue 0 1 296:GG; walk 1 full waiting 1; issue 0 1 304:GG;'
-     'walk 2 nothing waiting 1'),
-    ('freed pieces in flight', 330,
-     f'{B7}; {START}; walk 100; hold 0 10; write a 1 0 6; sync; write a 1 0 7; land; write a 1 0 7; sync',
-     f'{B_OUT}; {START_OUT}; walk 7 nothing waiting 3; hold 0 3 296 304 312; wrote a 1 0 5; sync 5; refused NoSpace;'
-     'land 0 0/296:- 0/304:- 0/312:-; refused NoSpace; sync 6; finished scrub 0 0'),
-    ('refusals', 512, f'{B7}; write a 1 1 6; make a 1 1 512 6; write z 1 0 6; write a 2 0 6',
-     f'{B_OUT}; refused PastEnd; refused ObjectThere; refused NoDataset; refused NoObject'),
-    ('an unknown word', 512, 'pool 7 2 8 4 64; wri a', 'script 2 Word'),
-    ('a width out of range', 512, 'pool 7 5 8 4 64', 'script 1 Number'),
-    ('status', 512, f'{B7}; status; {START}; status; walk 1; status; walk 1; status; walk 3; status; hold 0 1; write a 1 0 6;'
-     'sync; status; finish; status',
-     f'{B_OUT}; txg 4; scan none; {START_OUT};'
-     'txg 5; scan scrub scanning checked 0 errors 0 waiting 0 flight 0; range 0 4; at none; todo $origin:0; walk 1 more waiting 0;'
-     'txg 5; scan scrub scanning checked 0 errors 0 waiting 0 flight 0; range 0 4; at $origin 0.0.0.0 pass 0 1; todo;'
-     'walk 1 more waiting 0;'
-     'txg 5; scan scrub scanning checked 0 errors 0 waiting 0 flight 0; range 0 4; at none; todo a:1; walk 3 more waiting 2;'
-     'txg 5; scan scrub scanning checked 0 errors 0 waiting 2 flight 0; range 0 4; at a 0.0.0.2 pass 1 4; todo; hold 0 1 296;'
-     'wrote a 1 0 5; sync 5;'
-     'txg 6; scan scrub scanning checked 0 errors 0 waiting 0 flight 0; range 0 4; at a 0.0.0.2 pass 1 4; todo;'
-     'sync 6; finished scrub 0 0; txg 7; scan scrub finished checked 0 errors 0 waiting 0 flight 0'),
-    ('no scan', 512, 'pool 7 2 8 4 64; walk 5; issue 3 7; hold 0 2; land; finish; status',
-     'pool 7 mirrors 1 txg 1; walk 0 nothing waiting 0; issue 3 0; hold 0 0; land 0; refused NoScan; txg 2; scan none'),
-    ('a copy that is rewritten', 512, f'{B7}; rot 1 312 1; {START}; walk 100; issue 0 10; sync; errors; scrub; sync; walk 100; issue 0 10',
-     f'{B_OUT}; rot 1 312 1; {START_OUT}; walk 7 nothing waiting 3; issue 0 3 296:GG 304:GG 312:GR; sync 5; finished scrub 3 0;'
-     'errors 0; queued 6 1; sync 6; task 1 ok; walk 7 nothing waiting 3; issue 0 3 296:GG 304:GG 312:GG'),
-    ('no good copy', 512, f'{B7}; rot 0 312 1; rot 1 312 1; {START}; finish; errors; read a 1 0; status',
-     f'{B_OUT}; rot 0 312 1; rot 1 312 1; {START_OUT}; sync 5; finished scrub 3 1; errors 1; error 0 312 3 BB; refused ReadLost;'
-     'txg 6; scan scrub finished checked 3 errors 1 waiting 0 flight 0'),
-    ('rot twice restores', 512, f'{B7}; rot 0 304 8; rot 1 296 17; rot 0 304 8; rot 1 312 1; rot 1 296 16; {START}; finish; errors',
-     f'{B_OUT}; rot 0 304 8; rot 1 296 17; rot 0 304 8; rot 1 312 1; rot 1 296 16; {START_OUT}; sync 5; finished scrub 3 0; errors 0'),
-    ('a lost record that is restored', 512, f'{B7}; rot 0 312 1; rot 1 312 1; {START}; finish; read a 1 0; rot 0 312 1; read a 1 0;'
-     'errors; scrub; errors; sync; errors; finish; read a 1 0',
-     f'{B_OUT}; rot 0 312 1; rot 1 312 1; {START_OUT}; sync 5; finished scrub 3 1; refused ReadLost; rot 0 312 1;'
-     'read a 1 0 0000000000000005; errors 1; error 0 312 3 BB; queued 6 1; errors 1; error 0 312 3 BB; sync 6; task 1 ok; errors 0;'
-     'sync 7; finished scrub 3 0; read a 1 0 0000000000000005'),
-    ('a freed piece is rewritten, too', 512, f'{B7}; {START}; walk 100; hold 0 10; write a 1 0 6; sync; rot 1 304 9; land; errors; finish',
-     f'{B_OUT}; {START_OUT}; walk 7 nothing waiting 3; hold 0 3 296 304 312; wrote a 1 0 5; sync 5; rot 1 304 9;'
-     'land 0 0/296:- 0/304:- 0/312:-; errors 0; sync 6; finished scrub 0 0'),
-    ('the space of a device', 512, f'{B7}; rot 1 295 1; rot 1 295 2; rot 1 512 1; rot 1 511 2; rot 2 0 1; rot 255 296 1; rot 1 296 216;'
-     'rot 1 296 217; rot 1 296 216; errors',
-     f'{B_OUT}; refused OutOfRange; refused OutOfRange; refused OutOfRange; refused OutOfRange; refused NoDevice; refused NoDevice;'
-     'rot 1 296 216; refused OutOfRange; rot 1 296 216; errors 0'),
-    ('a sync writes over rot', 512, 'pool 7 2 8 4 64; rot 0 296 20; fs a; sync; make a 1 1 512 5; rot 1 296 20; sync; read a 1 0; scrub; sync;'
-     'walk 100; issue 0 10; rot 0 313 3; rot 1 313 3',
-     'pool 7 mirrors 1 txg 1; rot 0 296 20; queued 2 1; sync 2; task 1 ok; wrote a 1 0 3; rot 1 296 20; sync 3;'
-     f'read a 1 0 0000000000000005; {START_OUT}; walk 7 nothing waiting 3; issue 0 3 296:GG 304:GG 312:GG; rot 0 313 3; rot 1 313 3'),
-    ('rot out of its range', 512, f'{B7}; rot 1 2097152 1', 'script 6 Number'),
-    ('more where no turn is left', 512, f'{B7}; {START}; walk 7; walk 1',
-     f'{B_OUT}; {START_OUT}; walk 7 more waiting 3; walk 0 nothing waiting 3'),
-]
-
-
-def rows():
-    bad = 0
-    for name, sectors, script, want in ROWS:
-        lines = lambda s: [l.strip() for l in s.split(';')]
-        imgs = [bytearray(sectors*512), bytearray(sectors*512)]
-        st, out = run(['step', 'x', 'y'], ('\n'.join(lines(script))+'\n').encode(), imgs)
-        got = out.decode().split('\n')[:-1]
-        ok = got == lines(want) and st == (2 if want.startswith('script') else 0) and imgs[0] == imgs[1]
-        print('example', name, 'holds' if ok else 'FAILS')
-        if not ok:
-            bad += 1
-            for i in range(max(len(got), len(lines(want)))):
-                a, b = (lines(want)+['-']*99)[i], (got+['-']*99)[i]
-                print('   ' if a == b else '***', a, '|', b)
-    assert run([], b'', []) == (1, b'usage\n')
-    assert bad == 0, '%d examples fail' % bad
-    print('all examples hold')
+sys.dont_write_bytecode = True  # the folder keeps its files alone
+from faulty import BAD, LATER
+from pool import answer, run
+from rows import rows
+from scripts import gen
 
 
 # ---- running PROGRAM
@@ -163,9 +77,9 @@ def lines(binp):
     d = tempfile.mkdtemp()
     bad = n = 0
     words = ['step', os.path.join(d, 'im0'), os.path.join(d, 'im1')]
-    for l in BAD+LATER+NEWBAD:
-        scripts = [b'pool 7 2 8 4 64\nfs a\nsync\nmake a 1 1 512 5\nsync\n'+l+b'\nstatus\nsync\n', l+b'\n']
-        if l in NEWBAD: scripts.append(b'pool 7 2 8 4 64\nfs a\n  '+l.replace(b' ', b'  ')+b'  ')
+    for l in BAD+LATER:
+        scripts = [b'pool 7 2 8 4 64\nfs a\nsync\nmake a 1 1 512 5\nsnap a s\nsync\n'+l+b'\nstatus\nsync\nlist\n', l+b'\n']
+        if l in BAD: scripts.append(b'pool 7 2 8 4 64\nfs a\n  '+l.replace(b' ', b'  ')+b'  ')
         for s in scripts:
             imgs = [bytearray(400*512), bytearray(400*512)]
             what, want, got = differs(binp, d, words, words[1:], s, imgs)
@@ -218,7 +132,7 @@ def main(binp, seed, count):
 
 
 def stats(seed, count):
-    """The model alone: the generator asserts the invariants after every line."""
+    """The model alone: what the scripts reach. The generator asserts the invariants after every line."""
     status, notes, scripts, kinds = (collections.Counter() for _ in range(4))
     for k in range(seed, seed+count):
         words, names, s, imgs, pool, spoiled = case(k, '/tmp')
@@ -234,10 +148,28 @@ def stats(seed, count):
     for n, c in sorted(notes.items()): print('%7d in %5d scripts  %s' % (c, scripts[n], n))
 
 
+def check(seed, count):
+    """The model alone: what has to hold, asserted after each turn, task, issue and batch that landed."""
+    ran = steps = 0
+    for k in range(seed, seed+count):
+        words, names, s, imgs, _, _ = case(k, '/tmp')
+        try:
+            pool = answer(words, s, imgs, True)[2]
+            if pool: pool.step()
+        except AssertionError:
+            print('seed', k, s.decode('latin-1'), sep='\n')
+            raise
+        if pool:
+            ran += 1
+            steps += pool.steps
+    print('checked', count, 'scripts, of which', ran, 'ran, in', steps, 'steps')
+
+
 if __name__ == '__main__':
     a = sys.argv[1:]
     if a == ['--rows']: rows()
     elif len(a) == 3 and a[0] == '--stats': stats(int(a[1]), int(a[2]))
+    elif len(a) == 3 and a[0] == '--check': check(int(a[1]), int(a[2]))
     elif len(a) == 2 and a[0] == '--lines': sys.exit(1 if lines(os.path.abspath(a[1])) else 0)
     elif len(a) == 3 and a[0] == '--shrink': shrink(os.path.abspath(a[1]), int(a[2]))
     elif len(a) == 2 and a[0] == '--show':
