@@ -41,8 +41,6 @@ pub use script::parse;
 pub use texts::text;
 
 #[cfg(test)]
-mod dataset_tests;
-#[cfg(test)]
 mod reply_tests;
 #[cfg(test)]
 mod tests;
