@@ -51,7 +51,9 @@ fn the_first_fault_is_told(rt: HostRuntime) {
 
 /// A script with lines of each kind, some of them with more spaces, and others that are passed over.
 const SCRIPT: &[u8] =
-    b"# base\r\npool 7 2 8 4 64\r\n\r\n  fs   a  \nfs b2\nmake a 1 1 512 5\nwrite a 1 2 6\nread a@s3 1 9\n#\tend\nsnap a s3\nclone a@s3 b2\nclone a b2\ndestroy a\ndestroy a@s3\nswap a b2\r\n list \nscrub\nwalk 100\nissue 3 10\nhold 0 11\nland\nfinish\nrot 1 312 8\nerrors\nstatus\nfs a\nsync";
+    b"# base\r\npool 7 2 8 4 64\r\n\r\n  fs   a  \nfs b2\nmake a 1 1 512 5\nwrite a 1 2 6\nread a@s3 1 9\n#\tend\n\
+    snap a s3\nclone a@s3 b2\nclone a b2\ndestroy a\ndestroy a@s3\nswap a b2\r\n list \n\
+    scrub\nwalk 100\nissue 3 10\nhold 0 11\nland\nfinish\nrot 1 312 8\nerrors\nstatus\nfs a\nsync";
 
 /// What its line of this number commands, where that speaks of datasets.
 fn on_datasets(number: u32) -> Option<Command> {

@@ -1,12 +1,8 @@
-//! Runs of the program over sources, sinks and images that are made for the tests.
+//! Runs of the program over sources, sinks and images in memory, which may fail or lie. Runs of
+//! scripts over images that do neither stand in `outside/rows`.
 
-mod damage;
 mod devices;
 mod failures;
-mod images;
-mod refusals;
 mod repairs;
 mod rows;
-mod scans;
-mod statuses;
 mod world;

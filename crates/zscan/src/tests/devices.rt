@@ -1,4 +1,4 @@
-//! Images that lie: they take writes and lose them, and tell nothing of what they hold.
+//! Images that lie: they take writes and lose some, and tell nothing of what they hold.
 
 ghost use Rattle.std.specs.Prelude.{◌≡◌, None};
 ghost use Rattle.std.proofs.Common.{rules};
@@ -6,87 +6,12 @@ ghost use Rattle.std.proofs.Common.{rules};
 use std::alloc::Global;
 use zs_io::{Bay, BayFault, Device, SureDevice};
 
-/// An image that loses every write, and reads as zeros.
-#[derive(Drop)]
-pub struct Hollow {
-    bytes: u64,
-}
-
-impl Device for Hollow {
-    ghost size = { λ d. d.bytes };
-
-    ghost told = { λ _. None };
-
-    ghost may_leave = { λ _ _. ⊥ };
-
-    ghost moment = { λ _. 0 };
-
-    ghost left_since = { λ _ _ _. ⊥ };
-
-    ghost faults = { λ _. 0 };
-
-    fn bytes(&self) -> u64 {
-        self.bytes
-    }
-
-    fn read_at(&mut self, _at: u64, buf: &mut [u8]) -> Result<(), BayFault> {
-        buf.fill(0);
-        Ok(())
-    }
-
-    fn write_at(&mut self, _at: u64, _bytes: &[u8]) -> Result<(), BayFault> {
-        Ok(())
-    }
-
-    fn sync(&mut self) -> Result<(), BayFault> {
-        Ok(())
-    }
-
-    ghost told_is = { Prim.search rules };
-
-    ghost images_fit = { λ device c left. absurd left };
-
-    ghost images_are_bytes = { λ device c left. absurd left };
-
-    ghost past_is_bytes = { λ device t c left. absurd left };
-
-    ghost counts_now = { λ device t c later left. left };
-
-    ghost only_now = { λ device c left. left };
-}
-
-/// A bay of hollow images of one size.
-#[derive(Drop)]
-pub struct HollowBay {
-    bytes: u64,
-}
-
-impl HollowBay {
-    /// A bay of images of that many bytes.
-    pub fn new(bytes: u64) -> Self {
-        HollowBay { bytes }
-    }
-}
-
-impl Bay for HollowBay {
-    type Dev = Hollow;
-
-    ghost left = { λ _. None };
-
-    ghost asked = { λ _. None };
-
-    ghost faults = { λ _. 0 };
-
-    fn fetch(&mut self, _name: &str) -> Result<Hollow, BayFault> {
-        Ok(Hollow { bytes: self.bytes })
-    }
-}
-
-/// An image in memory that loses the write of one number, counted from 0.
+/// An image in memory that loses its writes of some numbers, counted from 0: from the one, and
+/// before the other.
 #[derive(Drop)]
 pub struct Shaky {
     disk: SureDevice,
-    loses: u64,
+    loses: (u64, u64),
     writes: u64,
 }
 
@@ -124,7 +49,8 @@ impl Device for Shaky {
     }
 
     fn write_at(&mut self, at: u64, bytes: &[u8]) -> Result<(), BayFault> {
-        if self.writes != self.loses {
+        let (from, until) = self.loses;
+        if self.writes < from || until <= self.writes {
             self.disk.write_at(at, bytes)?;
         }
         self.writes = self.writes.saturating_add(1);
@@ -152,12 +78,13 @@ impl Device for Shaky {
 #[derive(Drop)]
 pub struct ShakyBay {
     alloc: Global,
-    losses: Vec<u64>,
+    losses: Vec<(u64, u64)>,
 }
 
 impl ShakyBay {
-    /// A bay of as many images as there are numbers, each of which loses the write of its number.
-    pub fn new(alloc: Global, losses: Vec<u64>) -> Self {
+    /// A bay of as many images as there are pairs, each of which loses its writes from the one
+    /// number on and before the other.
+    pub fn new(alloc: Global, losses: Vec<(u64, u64)>) -> Self {
         ShakyBay { alloc, losses }
     }
 }
@@ -173,7 +100,7 @@ impl Bay for ShakyBay {
 
     fn fetch(&mut self, _name: &str) -> Result<Shaky, BayFault> {
         let loses = if self.losses.is_empty() {
-            u64::MAX
+            (0, 0)
         } else {
             self.losses.remove(0)
         };
