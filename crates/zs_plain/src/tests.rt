@@ -1,21 +1,22 @@
 //! Worked examples, run through the definitions: graphs by hand, the turns of a walk, and the events between them.
+//!
+//! An example is rows of plain values, of which helpers make graphs and scans and what these are judged by: so the proof of
+//! each test stays small.
 
 mod ends;
 mod examples;
 mod graphs;
 mod refused;
+mod run;
 mod scopes;
 mod valid;
 mod wrong;
 
-use crate::ahead::covers;
 use crate::dataset::{PlainDataset, PlainRoom};
-use crate::sound::is_sound;
-use crate::turn::{PlainTurn, turn};
 use crate::valid::is_valid;
 use std::alloc::{AllocError, Global};
 use zs_ids::{Bp, DsId, Key, Name, Piece, Place, Seq};
-use zs_phys::{At, Kind, Phys, Scope, Status, Step, Todo};
+use zs_phys::{At, Kind, Phys, Scope, Status, Todo};
 
 /// A name of one letter.
 pub fn name(letter: u8) -> Name {
@@ -59,33 +60,68 @@ pub fn block(key: Key, sector: u32, birth: u64) -> (Key, Bp) {
     (key, bp)
 }
 
-/// A head, or a snapshot with its creation and a label.
-pub fn dataset(
-    alloc: Global,
-    id: u32,
-    owner: u8,
-    parent: u32,
-    snapshot: Option<(u64, u8)>,
-    entries: &[(Key, Bp)],
-) -> Result<PlainDataset, AllocError> {
-    let entries = Seq::from_slice(alloc, entries)?;
-    let (creation, label) = match snapshot {
+/// A dataset of an example.
+#[derive(Clone, Copy)]
+pub struct Row<'a> {
+    /// Its number.
+    pub id: u32,
+    /// The letter of its owner.
+    pub owner: u8,
+    /// On which one it stands.
+    pub parent: u32,
+    /// Creation and label of a snapshot; none for a head.
+    pub snapshot: Option<(u64, u8)>,
+    /// What it holds.
+    pub blocks: &'a [(Key, Bp)],
+}
+
+/// A head.
+pub fn head(id: u32, owner: u8, parent: u32, blocks: &[(Key, Bp)]) -> Row<'_> {
+    Row {
+        id,
+        owner,
+        parent,
+        snapshot: None,
+        blocks,
+    }
+}
+
+/// A snapshot of the head `a`, with its creation and its label.
+pub fn snapshot(id: u32, parent: u32, taken: (u64, u8), blocks: &[(Key, Bp)]) -> Row<'_> {
+    Row {
+        id,
+        owner: b'a',
+        parent,
+        snapshot: Some(taken),
+        blocks,
+    }
+}
+
+/// The label of a snapshot, and the group in which it was taken.
+fn taken(snapshot: Option<(u64, u8)>) -> (u64, Name) {
+    match snapshot {
         None => (0, Name::EMPTY),
         Some((creation, label)) => (creation, name(label)),
-    };
+    }
+}
+
+/// The dataset of a row.
+pub fn dataset(alloc: Global, row: &Row<'_>) -> Result<PlainDataset, AllocError> {
+    let entries = Seq::from_slice(alloc, row.blocks)?;
+    let (creation, label) = taken(row.snapshot);
     Ok(PlainDataset {
-        id: DsId(id),
-        head: snapshot.is_none(),
-        owner: name(owner),
+        id: DsId(row.id),
+        head: row.snapshot.is_none(),
+        owner: name(row.owner),
         label,
-        parent: Some(DsId(parent)),
+        parent: Some(DsId(row.parent)),
         creation,
         entries,
     })
 }
 
 /// The empty snapshot at the root of the tree.
-pub fn origin(alloc: Global) -> PlainDataset {
+fn origin(alloc: Global) -> PlainDataset {
     PlainDataset {
         id: DsId::ORIGIN,
         head: false,
@@ -95,6 +131,28 @@ pub fn origin(alloc: Global) -> PlainDataset {
         creation: 1,
         entries: Seq::new(alloc),
     }
+}
+
+/// The origin, and the datasets of the rows.
+pub fn graph(alloc: Global, rows: &[Row<'_>]) -> Result<Vec<PlainDataset>, AllocError> {
+    let mut g = Vec::new(alloc);
+    g.push(origin(alloc))?;
+    for row in rows {
+        g.push(dataset(alloc, row)?)?;
+    }
+    Ok(g)
+}
+
+/// Whether the graph is valid in the room of one mirror of 512 sectors with at most so many blocks, where h is the transaction
+/// group whose tasks come next.
+pub fn fits(alloc: Global, g: &[PlainDataset], blocks: u64, h: u64) -> Result<bool, AllocError> {
+    let ends = Seq::from_slice(alloc, &[512])?;
+    let room = PlainRoom {
+        start: 296,
+        ends,
+        blocks,
+    };
+    is_valid(alloc, &room, g, h)
 }
 
 /// The scope of a scrub that was started in a transaction group.
@@ -132,11 +190,6 @@ pub fn scan(
     Ok(s)
 }
 
-/// A scan that has just started.
-pub fn started(alloc: Global) -> Result<Phys, AllocError> {
-    scan(alloc, At::Nowhere, (0, 0, false), &[(0, 0)])
-}
-
 /// Whether the state is this one.
 pub fn is_scan(s: &Phys, at: At, pass: (u64, u64, bool), todo: &[(u32, u64)]) -> bool {
     let here = s.at == at && s.curmin == pass.0 && s.curmax == pass.1 && s.again == pass.2;
@@ -158,7 +211,7 @@ pub fn are_at(pieces: &[Piece], sectors: &[u32]) -> bool {
     same && pieces.len() == sectors.len()
 }
 
-/// The pieces of the entries that are at these sectors.
+/// The live pieces that are at these sectors.
 pub fn pieces(
     alloc: Global,
     g: &[PlainDataset],
@@ -169,90 +222,4 @@ pub fn pieces(
         .copied()
         .filter(|p| sectors.contains(&p.place.sector))
         .collect(alloc)
-}
-
-/// The room of one mirror of 512 sectors, with at most so many blocks.
-pub fn room(alloc: Global, blocks: u64) -> Result<PlainRoom, AllocError> {
-    let ends = Seq::from_slice(alloc, &[512])?;
-    Ok(PlainRoom {
-        start: 296,
-        ends,
-        blocks,
-    })
-}
-
-/// Whether the graph is valid, and the state belongs to it and covers it, where h is the transaction group whose tasks come next.
-pub fn holds(
-    alloc: Global,
-    g: &[PlainDataset],
-    h: u64,
-    scope: &Scope,
-    s: &Phys,
-    done: &[Piece],
-) -> Result<bool, AllocError> {
-    let valid = is_valid(alloc, &room(alloc, 64)?, g, h)?;
-    let sound = is_sound(alloc, g, h, scope, s)?;
-    let covers = covers(alloc, g, scope, s, done)?;
-    Ok(valid && (sound && covers))
-}
-
-/// What a walk came to.
-#[derive(Drop)]
-pub struct Walked {
-    /// How many turns it made.
-    pub turns: u32,
-    /// Where it was then.
-    pub state: Phys,
-    /// What was done before it, and what it put.
-    pub done: Vec<Piece>,
-    /// Whether the graph was valid, and each state of it sound and covering.
-    pub held: bool,
-}
-
-/// Walks until there is nothing to walk, at most so many turns.
-pub fn walk(
-    alloc: Global,
-    g: &[PlainDataset],
-    h: u64,
-    scope: &Scope,
-    from: Phys,
-    before: &[Piece],
-    most: u32,
-) -> Result<Walked, AllocError> {
-    let mut state = from;
-    let mut done = Vec::from_slice(alloc, before)?;
-    let mut held = holds(alloc, g, h, scope, &state, &done)?;
-    for turns in 0..most {
-        let made = turn(alloc, g, scope, &state, &done)?;
-        let Some(made) = made else {
-            return Ok(Walked {
-                turns,
-                state,
-                done,
-                held: false,
-            });
-        };
-        let PlainTurn {
-            step,
-            state: next,
-            put,
-        } = made;
-        if step == Step::Nothing {
-            return Ok(Walked {
-                turns,
-                state,
-                done,
-                held,
-            });
-        }
-        done.extend_from_slice(&put)?;
-        state = next;
-        held = holds(alloc, g, h, scope, &state, &done)? && held;
-    }
-    Ok(Walked {
-        turns: most,
-        state,
-        done,
-        held,
-    })
 }

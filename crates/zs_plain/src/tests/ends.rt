@@ -2,34 +2,52 @@
 //! that has not begun to walk or was canceled.
 
 use super::graphs::{BEHIND_ROOT, one_filesystem};
-use super::{scan, scrub, started};
+use super::{scan, scrub};
 use crate::sound::is_sound;
-use std::alloc::AllocError;
+use std::alloc::{AllocError, Global};
 use zs_ids::DsId;
 use zs_phys::{At, Status};
 
-/// A walk whose scope ends by the next tasks' group belongs to its graph, and not one that ends a group later.
-#[test]
-fn a_walk_ends_by_the_next_tasks(rt: HostRuntime) -> Result<(), AllocError> {
-    let alloc = rt.alloc();
+/// A pass over nothing.
+const NO_PASS: (u64, u64, bool) = (0, 0, false);
+
+/// Whether a scan whose scope ends in group 6 belongs to a filesystem of one record where the next tasks' group is the one,
+/// and not where it is the other.
+fn belongs(
+    alloc: Global,
+    groups: (u64, u64),
+    status: Status,
+    at: At,
+    pass: (u64, u64, bool),
+    todo: &[(u32, u64)],
+) -> Result<bool, AllocError> {
     let g = one_filesystem(alloc)?;
     let scope = scrub(alloc, 6);
-    let walks = scan(alloc, At::Dataset(DsId(1), BEHIND_ROOT), (1, 6, false), &[])?;
-    assert!(rt;
-        is_sound(alloc, &g, 6, &scope, &walks)? && !is_sound(alloc, &g, 5, &scope, &walks)?
-    );
-    Ok(())
+    let mut s = scan(alloc, at, pass, todo)?;
+    s.status = status;
+    let one = is_sound(alloc, &g, groups.0, &scope, &s)?;
+    let other = is_sound(alloc, &g, groups.1, &scope, &s)?;
+    Ok(one && !other)
 }
 
-/// A scan that has just started may end a group later, but not two.
+/// A walk whose scope ends by the next tasks' group belongs to its graph, and not one that ends a group later. A scan that has
+/// just started may end a group later, but not two.
 #[test]
-fn a_scan_may_start_with_the_next_group(rt: HostRuntime) -> Result<(), AllocError> {
+fn a_walk_ends_by_the_next_tasks_and_a_start_a_group_later(
+    rt: HostRuntime,
+) -> Result<(), AllocError> {
     let alloc = rt.alloc();
-    let g = one_filesystem(alloc)?;
-    let scope = scrub(alloc, 6);
-    let first = started(alloc)?;
+    let head = At::Dataset(DsId(1), BEHIND_ROOT);
+    assert!(rt; belongs(alloc, (6, 5), Status::Scanning, head, (1, 6, false), &[])?);
     assert!(rt;
-        is_sound(alloc, &g, 5, &scope, &first)? && !is_sound(alloc, &g, 4, &scope, &first)?
+        belongs(
+            alloc,
+            (5, 4),
+            Status::Scanning,
+            At::Nowhere,
+            NO_PASS,
+            &[(0, 0)]
+        )?
     );
     Ok(())
 }
@@ -38,13 +56,25 @@ fn a_scan_may_start_with_the_next_group(rt: HostRuntime) -> Result<(), AllocErro
 #[test]
 fn a_scan_starts_with_the_origin_alone(rt: HostRuntime) -> Result<(), AllocError> {
     let alloc = rt.alloc();
-    let g = one_filesystem(alloc)?;
-    let scope = scrub(alloc, 6);
-    let head = scan(alloc, At::Nowhere, (0, 0, false), &[(1, 0)])?;
-    assert!(rt; is_sound(alloc, &g, 6, &scope, &head)? && !is_sound(alloc, &g, 5, &scope, &head)?);
-    let later = scan(alloc, At::Nowhere, (0, 0, false), &[(0, 1)])?;
     assert!(rt;
-        is_sound(alloc, &g, 6, &scope, &later)? && !is_sound(alloc, &g, 5, &scope, &later)?
+        belongs(
+            alloc,
+            (6, 5),
+            Status::Scanning,
+            At::Nowhere,
+            NO_PASS,
+            &[(1, 0)]
+        )?
+    );
+    assert!(rt;
+        belongs(
+            alloc,
+            (6, 5),
+            Status::Scanning,
+            At::Nowhere,
+            NO_PASS,
+            &[(0, 1)]
+        )?
     );
     Ok(())
 }
@@ -53,16 +83,7 @@ fn a_scan_starts_with_the_origin_alone(rt: HostRuntime) -> Result<(), AllocError
 #[test]
 fn a_canceled_scan_may_end_with_the_next_group(rt: HostRuntime) -> Result<(), AllocError> {
     let alloc = rt.alloc();
-    let g = one_filesystem(alloc)?;
-    let scope = scrub(alloc, 6);
-    let mut rests = scan(alloc, At::Nowhere, (0, 0, false), &[])?;
-    rests.status = Status::Canceled;
-    assert!(rt;
-        is_sound(alloc, &g, 5, &scope, &rests)? && !is_sound(alloc, &g, 4, &scope, &rests)?
-    );
-    rests.status = Status::Finished;
-    assert!(rt;
-        is_sound(alloc, &g, 6, &scope, &rests)? && !is_sound(alloc, &g, 5, &scope, &rests)?
-    );
+    assert!(rt; belongs(alloc, (5, 4), Status::Canceled, At::Nowhere, NO_PASS, &[])?);
+    assert!(rt; belongs(alloc, (6, 5), Status::Finished, At::Nowhere, NO_PASS, &[])?);
     Ok(())
 }

@@ -4,9 +4,11 @@ use super::graphs::{
     BEHIND_ROOT, BEHIND_TOP, clones, one_filesystem, rewritten, rewritten_alone, third_snapshot,
     two_filesystems, two_snapshots, with_snapshot, written_after_snapshot,
 };
-use super::{are_at, holds, is_scan, key, pieces, scan, scrub, started, walk};
-use std::alloc::AllocError;
-use zs_ids::DsId;
+use super::run::Run;
+use super::{key, pieces};
+use crate::dataset::PlainDataset;
+use std::alloc::{AllocError, Global};
+use zs_ids::{DsId, Key, Piece};
 use zs_phys::At;
 
 const A: DsId = DsId(1);
@@ -17,25 +19,14 @@ fn walks_a_head_again_in_place_of_its_destroyed_snapshot(
     rt: HostRuntime,
 ) -> Result<(), AllocError> {
     let alloc = rt.alloc();
-    let scope = scrub(alloc, 6);
-    let g = rewritten(alloc)?;
-    let w = walk(alloc, &g, 7, &scope, started(alloc)?, &[], 6)?;
-    assert!(rt; w.held && w.turns == 6 && are_at(&w.done, &[296, 304, 312]));
-    assert!(rt;
-        is_scan(
-            &w.state,
-            At::Dataset(DsId(2), BEHIND_TOP),
-            (1, 4, false),
-            &[]
-        )
-    );
-    let mut s = w.state;
-    s.destroyed(DsId(2), Some(A));
-    let g = rewritten_alone(alloc)?;
-    assert!(rt; is_scan(&s, At::Dataset(A, BEHIND_TOP), (1, 4, true), &[]));
-    let w = walk(alloc, &g, 8, &scope, s, &[], 100)?;
-    assert!(rt; w.held && w.turns == 10);
-    assert!(rt; are_at(&w.done, &[320, 321, 323, 331, 339, 347]));
+    let mut run = Run::new(alloc, 6)?;
+    assert!(rt; run.goes(alloc, &rewritten(alloc)?, 7, (6, 6), &[296, 304, 312])?);
+    assert!(rt; run.is_at(At::Dataset(DsId(2), BEHIND_TOP), (1, 4, false), &[]));
+    run.state.destroyed(DsId(2), Some(A));
+    assert!(rt; run.is_at(At::Dataset(A, BEHIND_TOP), (1, 4, true), &[]));
+    run.done.clear();
+    let done = [320, 321, 323, 331, 339, 347];
+    assert!(rt; run.goes(alloc, &rewritten_alone(alloc)?, 8, (100, 10), &done)?);
     Ok(())
 }
 
@@ -43,18 +34,22 @@ fn walks_a_head_again_in_place_of_its_destroyed_snapshot(
 #[test]
 fn follows_its_dataset_over_several_events(rt: HostRuntime) -> Result<(), AllocError> {
     let alloc = rt.alloc();
-    let scope = scrub(alloc, 6);
-    let g = two_snapshots(alloc)?;
-    let w = walk(alloc, &g, 7, &scope, started(alloc)?, &[], 4)?;
-    assert!(rt; w.held && w.turns == 4 && are_at(&w.done, &[296]));
-    let mut s = w.state;
-    s.destroyed(DsId(2), Some(DsId(3)));
-    s.destroyed(DsId(3), Some(A));
-    s.snapshotted(A, DsId(4));
-    let g = third_snapshot(alloc)?;
-    assert!(rt; is_scan(&s, At::Dataset(DsId(4), BEHIND_ROOT), (1, 3, true), &[]));
-    let w = walk(alloc, &g, 8, &scope, s, &[], 100)?;
-    assert!(rt; w.held && w.turns == 9 && are_at(&w.done, &[330, 338, 346]));
+    let mut run = Run::new(alloc, 6)?;
+    assert!(rt; run.goes(alloc, &two_snapshots(alloc)?, 7, (4, 4), &[296])?);
+    run.state.destroyed(DsId(2), Some(DsId(3)));
+    run.state.destroyed(DsId(3), Some(A));
+    run.state.snapshotted(A, DsId(4));
+    assert!(rt; run.is_at(At::Dataset(DsId(4), BEHIND_ROOT), (1, 3, true), &[]));
+    run.done.clear();
+    assert!(rt;
+        run.goes(
+            alloc,
+            &third_snapshot(alloc)?,
+            8,
+            (100, 9),
+            &[330, 338, 346]
+        )?
+    );
     Ok(())
 }
 
@@ -62,17 +57,12 @@ fn follows_its_dataset_over_several_events(rt: HostRuntime) -> Result<(), AllocE
 #[test]
 fn walks_on_in_a_snapshot_of_its_head(rt: HostRuntime) -> Result<(), AllocError> {
     let alloc = rt.alloc();
-    let scope = scrub(alloc, 4);
-    let g = one_filesystem(alloc)?;
-    let w = walk(alloc, &g, 5, &scope, started(alloc)?, &[], 4)?;
-    assert!(rt; w.held && w.turns == 4 && are_at(&w.done, &[296]));
-    let mut s = w.state;
-    s.snapshotted(A, DsId(2));
-    let g = with_snapshot(alloc)?;
-    assert!(rt; holds(alloc, &g, 6, &scope, &s, &w.done)?);
+    let mut run = Run::new(alloc, 4)?;
+    assert!(rt; run.goes(alloc, &one_filesystem(alloc)?, 5, (4, 4), &[296])?);
+    run.state.snapshotted(A, DsId(2));
+    assert!(rt; run.holds(alloc, &with_snapshot(alloc)?, 6)?);
     let g = written_after_snapshot(alloc)?;
-    let w = walk(alloc, &g, 7, &scope, s, &w.done, 100)?;
-    assert!(rt; w.held && w.turns == 4 && are_at(&w.done, &[296, 304, 312]));
+    assert!(rt; run.goes(alloc, &g, 7, (100, 4), &[296, 304, 312])?);
     Ok(())
 }
 
@@ -80,32 +70,21 @@ fn walks_on_in_a_snapshot_of_its_head(rt: HostRuntime) -> Result<(), AllocError>
 #[test]
 fn walks_both_of_two_swapped_heads(rt: HostRuntime) -> Result<(), AllocError> {
     let alloc = rt.alloc();
-    let scope = scrub(alloc, 5);
-    let g = clones(alloc, false)?;
-    let w = walk(alloc, &g, 6, &scope, started(alloc)?, &[], 9)?;
-    assert!(rt; w.held && w.turns == 9 && are_at(&w.done, &[296, 304, 312, 313]));
+    let mut run = Run::new(alloc, 5)?;
     assert!(rt;
-        is_scan(
-            &w.state,
-            At::Dataset(A, BEHIND_ROOT),
-            (3, 5, false),
-            &[(3, 3)]
-        )
+        run.goes(
+            alloc,
+            &clones(alloc, false)?,
+            6,
+            (9, 9),
+            &[296, 304, 312, 313]
+        )?
     );
-    let mut s = w.state;
-    s.swapped(A, DsId(3));
-    let g = clones(alloc, true)?;
-    assert!(rt;
-        is_scan(
-            &s,
-            At::Dataset(DsId(3), BEHIND_ROOT),
-            (3, 5, false),
-            &[(1, 3)]
-        )
-    );
-    let w = walk(alloc, &g, 7, &scope, s, &w.done, 100)?;
-    assert!(rt; w.held && w.turns == 8);
-    assert!(rt; are_at(&w.done, &[296, 304, 312, 313, 321, 329, 330, 338, 346]));
+    assert!(rt; run.is_at(At::Dataset(A, BEHIND_ROOT), (3, 5, false), &[(3, 3)]));
+    run.state.swapped(A, DsId(3));
+    assert!(rt; run.is_at(At::Dataset(DsId(3), BEHIND_ROOT), (3, 5, false), &[(1, 3)]));
+    let done = [296, 304, 312, 313, 321, 329, 330, 338, 346];
+    assert!(rt; run.goes(alloc, &clones(alloc, true)?, 7, (100, 8), &done)?);
     Ok(())
 }
 
@@ -113,50 +92,72 @@ fn walks_both_of_two_swapped_heads(rt: HostRuntime) -> Result<(), AllocError> {
 #[test]
 fn leaves_a_destroyed_filesystem_for_the_next_one(rt: HostRuntime) -> Result<(), AllocError> {
     let alloc = rt.alloc();
-    let scope = scrub(alloc, 4);
-    let g = two_filesystems(alloc, true)?;
-    let w = walk(alloc, &g, 5, &scope, started(alloc)?, &[], 4)?;
-    assert!(rt; w.held && w.turns == 4 && are_at(&w.done, &[296]));
-    let mut s = w.state;
-    s.destroyed(A, None);
+    let mut run = Run::new(alloc, 4)?;
+    assert!(rt; run.goes(alloc, &two_filesystems(alloc, true)?, 5, (4, 4), &[296])?);
+    run.state.destroyed(A, None);
+    assert!(rt; run.is_at(At::Destroyed, (0, 0, false), &[(2, 1)]));
+    run.done.clear();
     let g = two_filesystems(alloc, false)?;
-    assert!(rt; is_scan(&s, At::Destroyed, (0, 0, false), &[(2, 1)]));
-    let w = walk(alloc, &g, 6, &scope, s, &[], 100)?;
-    assert!(rt; w.held && w.turns == 6 && are_at(&w.done, &[313, 321, 329]));
+    assert!(rt; run.goes(alloc, &g, 6, (100, 6), &[313, 321, 329])?);
     Ok(())
 }
 
-/// The state that was stored before the snapshot was destroyed goes on from where it was stored.
+/// A state that is stored where the walk is in a snapshot that is destroyed later.
+fn stored(alloc: Global) -> Result<(Run, bool), AllocError> {
+    let mut run = Run::new(alloc, 6)?;
+    let gone = run.goes(alloc, &rewritten(alloc)?, 7, (6, 6), &[296, 304, 312])?;
+    Ok((run, gone))
+}
+
+/// The walk goes on for a turn before the snapshot is destroyed, and still holds then.
+#[test]
+fn holds_behind_a_stored_state_after_its_snapshot_was_destroyed(
+    rt: HostRuntime,
+) -> Result<(), AllocError> {
+    let alloc = rt.alloc();
+    let (mut run, gone) = stored(alloc)?;
+    assert!(rt; gone);
+    assert!(rt; run.goes(alloc, &rewritten(alloc)?, 8, (1, 1), &[296, 304, 312, 320])?);
+    assert!(rt; run.is_at(At::Dataset(DsId(2), key(1, 1, 0, 4)), (1, 4, false), &[]));
+    run.state.destroyed(DsId(2), Some(A));
+    assert!(rt; run.holds(alloc, &rewritten_alone(alloc)?, 9)?);
+    Ok(())
+}
+
+/// The state that was stored before goes on from where it was stored.
 #[test]
 fn goes_on_from_a_stored_state_after_its_snapshot_was_destroyed(
     rt: HostRuntime,
 ) -> Result<(), AllocError> {
     let alloc = rt.alloc();
-    let scope = scrub(alloc, 6);
-    let g = rewritten(alloc)?;
-    let stored = walk(alloc, &g, 7, &scope, started(alloc)?, &[], 6)?;
-    let copy = scan(alloc, stored.state.at, (1, 4, false), &[])?;
-    let running = walk(alloc, &g, 8, &scope, copy, &stored.done, 1)?;
-    assert!(rt; running.held && running.turns == 1);
-    assert!(rt;
-        is_scan(
-            &running.state,
-            At::Dataset(DsId(2), key(1, 1, 0, 4)),
-            (1, 4, false),
-            &[]
-        )
-    );
-    let g = rewritten_alone(alloc)?;
-    let mut s = running.state;
-    s.destroyed(DsId(2), Some(A));
-    assert!(rt; holds(alloc, &g, 9, &scope, &s, &running.done)?);
-    let mut s = stored.state;
-    s.destroyed(DsId(2), Some(A));
-    assert!(rt; is_scan(&s, At::Dataset(A, BEHIND_TOP), (1, 4, true), &[]));
-    let w = walk(alloc, &g, 9, &scope, s, &stored.done, 100)?;
-    assert!(rt; w.held && w.turns == 10);
-    assert!(rt; are_at(&w.done, &[296, 304, 312, 320, 321, 323, 331, 339, 347]));
+    let (mut run, gone) = stored(alloc)?;
+    assert!(rt; gone);
+    run.state.destroyed(DsId(2), Some(A));
+    assert!(rt; run.is_at(At::Dataset(A, BEHIND_TOP), (1, 4, true), &[]));
+    let done = [296, 304, 312, 320, 321, 323, 331, 339, 347];
+    assert!(rt; run.goes(alloc, &rewritten_alone(alloc)?, 9, (100, 10), &done)?);
     Ok(())
+}
+
+/// Where a piece is at home.
+fn home_of(g: &[PlainDataset], piece: Piece) -> Option<(DsId, Key)> {
+    match crate::graph::home(g, piece) {
+        None => None,
+        Some((id, (k, _))) => Some((id, k)),
+    }
+}
+
+/// How many live pieces of a graph lie at a sector, where each has this home in the other graph.
+fn with_home(
+    alloc: Global,
+    g: &[PlainDataset],
+    sector: u32,
+    other: &[PlainDataset],
+    home: Option<(DsId, Key)>,
+) -> Result<Option<usize>, AllocError> {
+    let found = pieces(alloc, g, &[sector])?;
+    let same = found.iter().all(|piece| home_of(other, *piece) == home);
+    Ok(if same { Some(found.len()) } else { None })
 }
 
 /// The live pieces of two datasets that share some, and a piece that is live no more.
@@ -164,23 +165,10 @@ fn goes_on_from_a_stored_state_after_its_snapshot_was_destroyed(
 fn finds_live_pieces_and_their_homes(rt: HostRuntime) -> Result<(), AllocError> {
     let alloc = rt.alloc();
     let g = rewritten(alloc)?;
-    let all = crate::graph::live(alloc, &g)?;
-    assert!(rt; all.len() == 12);
-    let shared = pieces(alloc, &g, &[320])?;
-    assert!(rt; shared.len() == 2);
-    for piece in shared.iter() {
-        let home = crate::graph::home(&g, *piece);
-        assert!(rt;
-            match home {
-                Some((id, (k, _))) => id == DsId(2) && k == BEHIND_TOP,
-                None => false
-            }
-        );
-    }
+    assert_eq!(rt; crate::graph::live(alloc, &g)?.len(), 12);
+    let top = Some((DsId(2), BEHIND_TOP));
+    assert_eq!(rt; with_home(alloc, &g, 320, &g, top)?, Some(2));
     let alone = rewritten_alone(alloc)?;
-    let freed = pieces(alloc, &g, &[322])?;
-    for piece in freed.iter() {
-        assert!(rt; crate::graph::home(&alone, *piece).is_none());
-    }
+    assert_eq!(rt; with_home(alloc, &g, 322, &alone, None)?, Some(1));
     Ok(())
 }

@@ -1,6 +1,6 @@
 //! The graphs of the examples.
 
-use super::{block, dataset, key, origin};
+use super::{block, graph, head, key, snapshot};
 use crate::dataset::PlainDataset;
 use std::alloc::{AllocError, Global};
 use zs_ids::{Bp, Key};
@@ -30,6 +30,11 @@ pub fn one_record(root: u32, dnodes: u32, record: u32, birth: u64) -> [(Key, Bp)
     ]
 }
 
+/// The one at 296, 304 and 312, written in transaction group 3.
+pub fn first_record() -> [(Key, Bp); 3] {
+    one_record(296, 304, 312, 3)
+}
+
 /// An object of two levels with three records, written in transaction group 3.
 pub fn three_records() -> [(Key, Bp); 6] {
     [
@@ -54,210 +59,146 @@ pub fn last_rewritten() -> [(Key, Bp); 6] {
     ]
 }
 
+/// The filesystem `a` with these blocks.
+pub fn filesystem(alloc: Global, blocks: &[(Key, Bp)]) -> Result<Vec<PlainDataset>, AllocError> {
+    graph(alloc, &[head(1, b'a', 0, blocks)])
+}
+
+/// The filesystem `a` on a snapshot, each with its blocks.
+fn on_snapshot(
+    alloc: Global,
+    blocks: &[(Key, Bp)],
+    id: u32,
+    taken: (u64, u8),
+    before: &[(Key, Bp)],
+) -> Result<Vec<PlainDataset>, AllocError> {
+    graph(
+        alloc,
+        &[head(1, b'a', id, blocks), snapshot(id, 0, taken, before)],
+    )
+}
+
 /// A filesystem whose last record was written once more after its snapshot.
 pub fn rewritten(alloc: Global) -> Result<Vec<PlainDataset>, AllocError> {
-    let mut g = Vec::new(alloc);
-    g.push(origin(alloc))?;
-    g.push(dataset(alloc, 1, b'a', 2, None, &last_rewritten())?)?;
-    g.push(dataset(alloc, 2, b'a', 0, Some((4, b's')), &three_records())?)?;
-    Ok(g)
+    on_snapshot(alloc, &last_rewritten(), 2, (4, b's'), &three_records())
 }
 
 /// The same, with its snapshot destroyed.
 pub fn rewritten_alone(alloc: Global) -> Result<Vec<PlainDataset>, AllocError> {
-    let mut g = Vec::new(alloc);
-    g.push(origin(alloc))?;
-    g.push(dataset(alloc, 1, b'a', 0, None, &last_rewritten())?)?;
-    Ok(g)
+    filesystem(alloc, &last_rewritten())
 }
 
 /// A filesystem that was written in transaction groups 3, 4 and 5, with a snapshot after each of the first two.
 pub fn two_snapshots(alloc: Global) -> Result<Vec<PlainDataset>, AllocError> {
-    let mut g = Vec::new(alloc);
-    g.push(origin(alloc))?;
-    g.push(dataset(alloc, 1, b'a', 3, None, &one_record(330, 338, 346, 5))?)?;
-    g.push(dataset(
+    let first = first_record();
+    let second = one_record(313, 321, 329, 4);
+    let third = one_record(330, 338, 346, 5);
+    graph(
         alloc,
-        2,
-        b'a',
-        0,
-        Some((3, b'1')),
-        &one_record(296, 304, 312, 3),
-    )?)?;
-    g.push(dataset(
-        alloc,
-        3,
-        b'a',
-        2,
-        Some((4, b'2')),
-        &one_record(313, 321, 329, 4),
-    )?)?;
-    Ok(g)
+        &[
+            head(1, b'a', 3, &third),
+            snapshot(2, 0, (3, b'1'), &first),
+            snapshot(3, 2, (4, b'2'), &second),
+        ],
+    )
 }
 
 /// The same with both snapshots destroyed, and a third one taken in transaction group 7.
 pub fn third_snapshot(alloc: Global) -> Result<Vec<PlainDataset>, AllocError> {
-    let mut g = Vec::new(alloc);
-    g.push(origin(alloc))?;
-    g.push(dataset(alloc, 1, b'a', 4, None, &one_record(330, 338, 346, 5))?)?;
-    g.push(dataset(
-        alloc,
-        4,
-        b'a',
-        0,
-        Some((7, b'3')),
-        &one_record(330, 338, 346, 5),
-    )?)?;
-    Ok(g)
+    let blocks = one_record(330, 338, 346, 5);
+    on_snapshot(alloc, &blocks, 4, (7, b'3'), &blocks)
 }
 
 /// A filesystem of one record.
 pub fn one_filesystem(alloc: Global) -> Result<Vec<PlainDataset>, AllocError> {
-    let mut g = Vec::new(alloc);
-    g.push(origin(alloc))?;
-    g.push(dataset(alloc, 1, b'a', 0, None, &one_record(296, 304, 312, 3))?)?;
-    Ok(g)
+    filesystem(alloc, &first_record())
 }
 
 /// The same with a snapshot of transaction group 5.
 pub fn with_snapshot(alloc: Global) -> Result<Vec<PlainDataset>, AllocError> {
-    let mut g = Vec::new(alloc);
-    g.push(origin(alloc))?;
-    g.push(dataset(alloc, 1, b'a', 2, None, &one_record(296, 304, 312, 3))?)?;
-    g.push(dataset(
-        alloc,
-        2,
-        b'a',
-        0,
-        Some((5, b's')),
-        &one_record(296, 304, 312, 3),
-    )?)?;
-    Ok(g)
+    let blocks = first_record();
+    on_snapshot(alloc, &blocks, 2, (5, b's'), &blocks)
 }
 
 /// The same with the record written once more in transaction group 6.
 pub fn written_after_snapshot(alloc: Global) -> Result<Vec<PlainDataset>, AllocError> {
-    let mut g = Vec::new(alloc);
-    g.push(origin(alloc))?;
-    g.push(dataset(alloc, 1, b'a', 2, None, &one_record(313, 321, 329, 6))?)?;
-    g.push(dataset(
+    let blocks = one_record(313, 321, 329, 6);
+    on_snapshot(alloc, &blocks, 2, (5, b's'), &first_record())
+}
+
+/// A head on a snapshot that was taken in transaction group 5, with a block of group 3 that the snapshot lacks.
+pub fn unshared(alloc: Global) -> Result<Vec<PlainDataset>, AllocError> {
+    let blocks = one_record(313, 321, 329, 3);
+    on_snapshot(alloc, &blocks, 2, (5, b's'), &first_record())
+}
+
+/// A filesystem and a clone of its snapshot, each written after it, with these blocks.
+fn with_clone(
+    alloc: Global,
+    a: &[(Key, Bp)],
+    b: &[(Key, Bp)],
+) -> Result<Vec<PlainDataset>, AllocError> {
+    let first = first_record();
+    graph(
         alloc,
-        2,
-        b'a',
-        0,
-        Some((5, b's')),
-        &one_record(296, 304, 312, 3),
-    )?)?;
-    Ok(g)
+        &[
+            head(1, b'a', 2, a),
+            snapshot(2, 0, (3, b's'), &first),
+            head(3, b'b', 2, b),
+        ],
+    )
 }
 
 /// A filesystem and a clone of its snapshot, each written after it; swapped or not.
 pub fn clones(alloc: Global, swapped: bool) -> Result<Vec<PlainDataset>, AllocError> {
     let first = one_record(313, 321, 329, 4);
     let second = one_record(330, 338, 346, 4);
-    let (a, b) = if swapped {
-        (second, first)
+    if swapped {
+        with_clone(alloc, &second, &first)
     } else {
-        (first, second)
-    };
-    let mut g = Vec::new(alloc);
-    g.push(origin(alloc))?;
-    g.push(dataset(alloc, 1, b'a', 2, None, &a)?)?;
-    g.push(dataset(
-        alloc,
-        2,
-        b'a',
-        0,
-        Some((3, b's')),
-        &one_record(296, 304, 312, 3),
-    )?)?;
-    g.push(dataset(alloc, 3, b'b', 2, None, &b)?)?;
-    Ok(g)
+        with_clone(alloc, &first, &second)
+    }
+}
+
+/// A filesystem of one record at 296, 304 and 312, beside one with these blocks.
+pub fn beside(alloc: Global, blocks: &[(Key, Bp)]) -> Result<Vec<PlainDataset>, AllocError> {
+    let first = first_record();
+    graph(alloc, &[head(1, b'a', 0, &first), head(2, b'b', 0, blocks)])
 }
 
 /// Two filesystems of one record each; the first destroyed or not.
 pub fn two_filesystems(alloc: Global, first: bool) -> Result<Vec<PlainDataset>, AllocError> {
-    let mut g = Vec::new(alloc);
-    g.push(origin(alloc))?;
+    let second = one_record(313, 321, 329, 3);
     if first {
-        g.push(dataset(alloc, 1, b'a', 0, None, &one_record(296, 304, 312, 3))?)?;
+        beside(alloc, &second)
+    } else {
+        graph(alloc, &[head(2, b'b', 0, &second)])
     }
-    g.push(dataset(alloc, 2, b'b', 0, None, &one_record(313, 321, 329, 3))?)?;
-    Ok(g)
-}
-
-/// A filesystem of one record at these sectors, beside one at 296, 304 and 312.
-pub fn beside(
-    alloc: Global,
-    root: u32,
-    dnodes: u32,
-    record: u32,
-) -> Result<Vec<PlainDataset>, AllocError> {
-    let mut g = one_filesystem(alloc)?;
-    g.push(dataset(
-        alloc,
-        2,
-        b'b',
-        0,
-        None,
-        &one_record(root, dnodes, record, 3),
-    )?)?;
-    Ok(g)
 }
 
 /// A filesystem of one record whose root lies at two places: at 296 and at this sector.
 pub fn doubled(alloc: Global, second: u32) -> Result<Vec<PlainDataset>, AllocError> {
-    let (k, mut root) = block(key(0, 0, 0, 0), 296, 3);
+    let [(k, mut root), dnodes, record] = first_record();
     root.count = 2;
     root.places[1].sector = second;
-    let dnodes = block(key(0, 0, 0, 1), 304, 3);
-    let record = block(key(1, 1, 0, 3), 312, 3);
-    let mut g = Vec::new(alloc);
-    g.push(origin(alloc))?;
-    g.push(dataset(alloc, 1, b'a', 0, None, &[(k, root), dnodes, record])?)?;
-    Ok(g)
+    filesystem(alloc, &[(k, root), dnodes, record])
 }
 
 /// A filesystem that lacks the block of dnodes above its record.
 pub fn without_dnodes(alloc: Global) -> Result<Vec<PlainDataset>, AllocError> {
-    let root = block(key(0, 0, 0, 0), 296, 3);
-    let record = block(key(1, 1, 0, 3), 312, 3);
-    let mut g = Vec::new(alloc);
-    g.push(origin(alloc))?;
-    g.push(dataset(alloc, 1, b'a', 0, None, &[root, record])?)?;
-    Ok(g)
+    let [root, _, record] = first_record();
+    filesystem(alloc, &[root, record])
 }
 
 /// A filesystem whose record is born after the blocks above it.
 pub fn young_record(alloc: Global) -> Result<Vec<PlainDataset>, AllocError> {
-    let root = block(key(0, 0, 0, 0), 296, 3);
-    let dnodes = block(key(0, 0, 0, 1), 304, 3);
-    let record = block(key(1, 1, 0, 3), 312, 4);
-    let mut g = Vec::new(alloc);
-    g.push(origin(alloc))?;
-    g.push(dataset(alloc, 1, b'a', 0, None, &[root, dnodes, record])?)?;
-    Ok(g)
-}
-
-/// A head on a snapshot that was taken in transaction group 5, with a block of group 3 that the snapshot lacks.
-pub fn unshared(alloc: Global) -> Result<Vec<PlainDataset>, AllocError> {
-    let mut g = Vec::new(alloc);
-    g.push(origin(alloc))?;
-    g.push(dataset(alloc, 1, b'a', 2, None, &one_record(313, 321, 329, 3))?)?;
-    g.push(dataset(
-        alloc,
-        2,
-        b'a',
-        0,
-        Some((5, b's')),
-        &one_record(296, 304, 312, 3),
-    )?)?;
-    Ok(g)
+    let [root, dnodes, mut record] = first_record();
+    record.1.birth = 4;
+    filesystem(alloc, &[root, dnodes, record])
 }
 
 /// A head on a head.
 pub fn head_on_head(alloc: Global) -> Result<Vec<PlainDataset>, AllocError> {
-    let mut g = one_filesystem(alloc)?;
-    g.push(dataset(alloc, 2, b'b', 1, None, &[])?)?;
-    Ok(g)
+    let first = first_record();
+    graph(alloc, &[head(1, b'a', 0, &first), head(2, b'b', 1, &[])])
 }

@@ -1,22 +1,42 @@
 //! Graphs that are valid, and graphs that are not.
 
+use super::fits;
 use super::graphs::{
-    beside, doubled, head_on_head, one_filesystem, rewritten, unshared, without_dnodes,
+    beside, doubled, head_on_head, one_filesystem, one_record, rewritten, unshared, without_dnodes,
     young_record,
 };
-use super::room;
 use crate::blocks::{has_blocks_in_order, shares};
-use crate::valid::{are_apart, is_tree, is_valid};
-use std::alloc::AllocError;
+use crate::dataset::PlainDataset;
+use crate::valid::{are_apart, is_tree};
+use std::alloc::{AllocError, Global};
+
+/// Whether the blocks of each dataset are in order, where h is the transaction group whose tasks come next.
+fn is_ordered(g: &[PlainDataset], h: u64) -> bool {
+    g.iter().all(|d| has_blocks_in_order(d, h))
+}
+
+/// Whether the second dataset shares with the third what it has from before it; none where there are not three.
+fn head_shares(g: &[PlainDataset]) -> Option<bool> {
+    match g {
+        [_, head, snapshot] => Some(shares(head, snapshot)),
+        _ => None,
+    }
+}
 
 /// Two filesystems side by side, whose blocks touch and do not meet.
 #[test]
 fn blocks_that_touch_lie_apart(rt: HostRuntime) -> Result<(), AllocError> {
-    let alloc = rt.alloc();
-    let g = beside(alloc, 313, 321, 329)?;
-    assert!(rt; are_apart(&g) && is_valid(alloc, &room(alloc, 6)?, &g, 3)?);
-    let met = beside(alloc, 311, 321, 329)?;
-    assert!(rt; !are_apart(&met) && !is_valid(alloc, &room(alloc, 6)?, &met, 3)?);
+    let g = beside(rt.alloc(), &one_record(313, 321, 329, 3))?;
+    assert!(rt; are_apart(&g));
+    assert!(rt; fits(rt.alloc(), &g, 6, 3)?);
+    Ok(())
+}
+
+#[test]
+fn blocks_that_meet_do_not(rt: HostRuntime) -> Result<(), AllocError> {
+    let g = beside(rt.alloc(), &one_record(311, 321, 329, 3))?;
+    assert!(rt; !are_apart(&g));
+    assert!(rt; !fits(rt.alloc(), &g, 6, 3)?);
     Ok(())
 }
 
@@ -25,43 +45,39 @@ fn blocks_that_touch_lie_apart(rt: HostRuntime) -> Result<(), AllocError> {
 fn a_block_may_have_two_places(rt: HostRuntime) -> Result<(), AllocError> {
     let alloc = rt.alloc();
     let beside = doubled(alloc, 313)?;
-    assert!(rt; is_valid(alloc, &room(alloc, 4)?, &beside, 3)?);
-    assert!(rt; !is_valid(alloc, &room(alloc, 3)?, &beside, 3)?);
-    let touching = doubled(alloc, 288)?;
-    assert!(rt; touching.iter().all(|d| has_blocks_in_order(d, 3)));
+    assert!(rt; fits(alloc, &beside, 4, 3)?);
+    assert!(rt; !fits(alloc, &beside, 3, 3)?);
+    assert!(rt; is_ordered(&doubled(alloc, 288)?, 3));
     Ok(())
 }
 
 /// The places of one block share no sector.
 #[test]
 fn the_places_of_a_block_lie_apart(rt: HostRuntime) -> Result<(), AllocError> {
-    let alloc = rt.alloc();
-    let met = doubled(alloc, 289)?;
-    assert!(rt; are_apart(&met) && !met.iter().all(|d| has_blocks_in_order(d, 3)));
-    let twice = doubled(alloc, 296)?;
-    assert!(rt; are_apart(&twice) && !is_valid(alloc, &room(alloc, 4)?, &twice, 3)?);
+    let met = doubled(rt.alloc(), 289)?;
+    assert!(rt; are_apart(&met) && !is_ordered(&met, 3));
+    let twice = doubled(rt.alloc(), 296)?;
+    assert!(rt; are_apart(&twice) && !fits(rt.alloc(), &twice, 4, 3)?);
     Ok(())
 }
 
 /// A pool has at most its number of blocks, however many datasets hold one of them.
 #[test]
 fn a_shared_block_counts_once(rt: HostRuntime) -> Result<(), AllocError> {
-    let alloc = rt.alloc();
-    let g = rewritten(alloc)?;
-    assert!(rt; is_valid(alloc, &room(alloc, 10)?, &g, 5)?);
-    assert!(rt; !is_valid(alloc, &room(alloc, 9)?, &g, 5)?);
-    assert!(rt; !is_valid(alloc, &room(alloc, 10)?, &g, 4)?);
+    let g = rewritten(rt.alloc())?;
+    for (blocks, h, wanted) in [(10, 5, true), (9, 5, false), (10, 4, false)] {
+        assert_eq!(rt; fits(rt.alloc(), &g, blocks, h)?, wanted, "at {blocks} {h}");
+    }
     Ok(())
 }
 
 /// A block past the end of its mirror is in no room.
 #[test]
 fn a_block_lies_in_the_room(rt: HostRuntime) -> Result<(), AllocError> {
-    let alloc = rt.alloc();
-    let inside = beside(alloc, 320, 328, 511)?;
-    assert!(rt; is_valid(alloc, &room(alloc, 6)?, &inside, 3)?);
-    let outside = beside(alloc, 320, 328, 512)?;
-    assert!(rt; !is_valid(alloc, &room(alloc, 6)?, &outside, 3)?);
+    for (record, wanted) in [(511, true), (512, false)] {
+        let g = beside(rt.alloc(), &one_record(320, 328, record, 3))?;
+        assert_eq!(rt; fits(rt.alloc(), &g, 6, 3)?, wanted, "at {record}");
+    }
     Ok(())
 }
 
@@ -69,12 +85,9 @@ fn a_block_lies_in_the_room(rt: HostRuntime) -> Result<(), AllocError> {
 #[test]
 fn a_block_stands_below_its_parent(rt: HostRuntime) -> Result<(), AllocError> {
     let alloc = rt.alloc();
-    let g = one_filesystem(alloc)?;
-    assert!(rt; g.iter().all(|d| has_blocks_in_order(d, 3)));
-    let gap = without_dnodes(alloc)?;
-    assert!(rt; !gap.iter().all(|d| has_blocks_in_order(d, 3)));
-    let young = young_record(alloc)?;
-    assert!(rt; !young.iter().all(|d| has_blocks_in_order(d, 4)));
+    assert!(rt; is_ordered(&one_filesystem(alloc)?, 3));
+    assert!(rt; !is_ordered(&without_dnodes(alloc)?, 3));
+    assert!(rt; !is_ordered(&young_record(alloc)?, 4));
     Ok(())
 }
 
@@ -82,25 +95,16 @@ fn a_block_stands_below_its_parent(rt: HostRuntime) -> Result<(), AllocError> {
 #[test]
 fn a_head_shares_with_its_snapshot(rt: HostRuntime) -> Result<(), AllocError> {
     let alloc = rt.alloc();
-    let g = rewritten(alloc)?;
-    let wrong = unshared(alloc)?;
-    if let [_, head, snapshot] = g.as_slice() {
-        assert!(rt; shares(head, snapshot));
-    }
-    if let [_, head, snapshot] = wrong.as_slice() {
-        assert!(rt; !shares(head, snapshot));
-    }
-    assert!(rt; !is_valid(alloc, &room(alloc, 6)?, &wrong, 5)?);
+    assert_eq!(rt; head_shares(&rewritten(alloc)?), Some(true));
+    assert_eq!(rt; head_shares(&unshared(alloc)?), Some(false));
+    assert!(rt; !fits(alloc, &unshared(alloc)?, 6, 5)?);
     Ok(())
 }
 
 /// Datasets stand on snapshots.
 #[test]
 fn no_head_stands_on_a_head(rt: HostRuntime) -> Result<(), AllocError> {
-    let alloc = rt.alloc();
-    let g = one_filesystem(alloc)?;
-    assert!(rt; is_tree(&g, 3));
-    let wrong = head_on_head(alloc)?;
-    assert!(rt; !is_tree(&wrong, 3));
+    assert!(rt; is_tree(&one_filesystem(rt.alloc())?, 3));
+    assert!(rt; !is_tree(&head_on_head(rt.alloc())?, 3));
     Ok(())
 }

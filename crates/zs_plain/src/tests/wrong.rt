@@ -1,91 +1,132 @@
 //! States that lose blocks: each is shown not to belong to its graph, or not to cover it.
 
 use super::graphs::{BEHIND_ROOT, BEHIND_TOP, rewritten_alone, third_snapshot, with_snapshot};
-use super::{key, pieces, scan, scrub};
+use super::{block, key, pieces, scan, scrub};
 use crate::ahead::{covers, is_ahead};
+use crate::dataset::PlainDataset;
 use crate::sound::is_sound;
-use std::alloc::AllocError;
-use zs_ids::DsId;
+use std::alloc::{AllocError, Global};
+use zs_ids::{DsId, Key};
 use zs_phys::At;
 
 const A: DsId = DsId(1);
 
+/// A pass over nothing.
+const NO_PASS: (u64, u64, bool) = (0, 0, false);
+
+/// Whether a scrub up to a group that is there belongs to the graph, where h is the transaction group whose tasks come next.
+fn belongs(
+    alloc: Global,
+    g: &[PlainDataset],
+    groups: (u64, u64),
+    at: At,
+    pass: (u64, u64, bool),
+    todo: &[(u32, u64)],
+) -> Result<bool, AllocError> {
+    let s = scan(alloc, at, pass, todo)?;
+    is_sound(alloc, g, groups.1, &scrub(alloc, groups.0), &s)
+}
+
+/// Whether it covers the graph where the pieces at these sectors are done.
+fn covered(
+    alloc: Global,
+    g: &[PlainDataset],
+    max: u64,
+    at: At,
+    pass: (u64, u64, bool),
+    todo: &[(u32, u64)],
+    done: &[u32],
+) -> Result<bool, AllocError> {
+    let s = scan(alloc, at, pass, todo)?;
+    let done = pieces(alloc, g, done)?;
+    covers(alloc, g, &scrub(alloc, max), &s, &done)
+}
+
 /// The head that took the place of a destroyed snapshot is not walked again.
 #[test]
 fn a_head_that_is_not_walked_again_is_lost(rt: HostRuntime) -> Result<(), AllocError> {
-    let alloc = rt.alloc();
-    let scope = scrub(alloc, 6);
-    let g = rewritten_alone(alloc)?;
-    let right = scan(alloc, At::Dataset(A, BEHIND_TOP), (1, 4, true), &[])?;
-    assert!(rt; is_sound(alloc, &g, 8, &scope, &right)? && covers(alloc, &g, &scope, &right, &[])?);
-    let wrong = scan(alloc, At::Dataset(A, BEHIND_TOP), (1, 4, false), &[])?;
-    assert!(rt; !is_sound(alloc, &g, 8, &scope, &wrong)?);
-    assert!(rt; !covers(alloc, &g, &scope, &wrong, &[])?);
+    let g = rewritten_alone(rt.alloc())?;
+    let at = At::Dataset(A, BEHIND_TOP);
+    for again in [true, false] {
+        let pass = (1, 4, again);
+        let sound = belongs(rt.alloc(), &g, (6, 8), at, pass, &[])?;
+        assert_eq!(rt; sound, again);
+        let covers = covered(rt.alloc(), &g, 6, at, pass, &[], &[])?;
+        assert_eq!(rt; covers, again);
+    }
     Ok(())
 }
 
 /// The bookmark stays on the head of which a snapshot was taken.
 #[test]
 fn a_bookmark_left_on_the_head_loses_its_snapshot(rt: HostRuntime) -> Result<(), AllocError> {
-    let alloc = rt.alloc();
-    let scope = scrub(alloc, 4);
-    let g = with_snapshot(alloc)?;
-    let done = pieces(alloc, &g, &[296])?;
-    let right = scan(alloc, At::Dataset(DsId(2), BEHIND_ROOT), (1, 4, false), &[])?;
-    assert!(rt;
-        is_sound(alloc, &g, 6, &scope, &right)? && covers(alloc, &g, &scope, &right, &done)?
-    );
-    let wrong = scan(alloc, At::Dataset(A, BEHIND_ROOT), (1, 4, false), &[])?;
-    assert!(rt; !covers(alloc, &g, &scope, &wrong, &done)?);
+    let g = with_snapshot(rt.alloc())?;
+    let pass = (1, 4, false);
+    let right = At::Dataset(DsId(2), BEHIND_ROOT);
+    assert!(rt; belongs(rt.alloc(), &g, (4, 6), right, pass, &[])?);
+    assert!(rt; covered(rt.alloc(), &g, 4, right, pass, &[], &[296])?);
+    let wrong = At::Dataset(A, BEHIND_ROOT);
+    assert!(rt; !covered(rt.alloc(), &g, 4, wrong, pass, &[], &[296])?);
     Ok(())
 }
 
-/// The end of a pass that was cut short queues the dataset again, and not its children.
+/// The end of a pass that was cut short queues the dataset again, and not its children: neither from its creation on nor
+/// from the pass's end.
 #[test]
 fn children_queued_after_a_pass_cut_short_lose_their_parent(
     rt: HostRuntime,
 ) -> Result<(), AllocError> {
-    let alloc = rt.alloc();
-    let scope = scrub(alloc, 6);
-    let g = third_snapshot(alloc)?;
-    let right = scan(alloc, At::Nowhere, (0, 0, false), &[(4, 3)])?;
-    assert!(rt; is_sound(alloc, &g, 8, &scope, &right)? && covers(alloc, &g, &scope, &right, &[])?);
-    let from_creation = scan(alloc, At::Nowhere, (0, 0, false), &[(1, 7)])?;
-    assert!(rt; !covers(alloc, &g, &scope, &from_creation, &[])?);
-    let from_curmax = scan(alloc, At::Nowhere, (0, 0, false), &[(1, 3)])?;
-    assert!(rt; !covers(alloc, &g, &scope, &from_curmax, &[])?);
-    let g = rewritten_alone(alloc)?;
-    let none_left = scan(alloc, At::Nowhere, (0, 0, false), &[])?;
-    let done = pieces(alloc, &g, &[320, 321])?;
-    assert!(rt; !covers(alloc, &g, &scope, &none_left, &done)?);
+    let g = third_snapshot(rt.alloc())?;
+    assert!(rt; belongs(rt.alloc(), &g, (6, 8), At::Nowhere, NO_PASS, &[(4, 3)])?);
+    for (queued, wanted) in [((4, 3), true), ((1, 7), false), ((1, 3), false)] {
+        let covers = covered(rt.alloc(), &g, 6, At::Nowhere, NO_PASS, &[queued], &[])?;
+        assert_eq!(rt; covers, wanted, "at {queued:?}");
+    }
     Ok(())
 }
 
-/// Below a block that is born after the pass's end stand blocks that are not.
+/// Nor is nothing queued.
+#[test]
+fn nothing_queued_after_a_pass_cut_short_loses_what_is_not_done(
+    rt: HostRuntime,
+) -> Result<(), AllocError> {
+    let g = rewritten_alone(rt.alloc())?;
+    assert!(rt; !covered(rt.alloc(), &g, 6, At::Nowhere, NO_PASS, &[], &[320, 321])?);
+    Ok(())
+}
+
+/// Below a block that is born after the pass's end stand blocks that are not: the walk goes on below it, and neither with the
+/// next object nor with the next leaf.
 #[test]
 fn a_walk_that_skips_what_is_below_a_young_block_loses_it(
     rt: HostRuntime,
 ) -> Result<(), AllocError> {
-    let alloc = rt.alloc();
-    let scope = scrub(alloc, 6);
-    let g = rewritten_alone(alloc)?;
-    let deeper = scan(alloc, At::Dataset(A, key(0, 0, 0, 2)), (1, 4, true), &[])?;
-    assert!(rt; covers(alloc, &g, &scope, &deeper, &[])?);
-    let next_object = scan(alloc, At::Dataset(A, key(32, 0, 0, 1)), (1, 4, true), &[])?;
-    assert!(rt; !covers(alloc, &g, &scope, &next_object, &[])?);
-    let next_leaf = scan(alloc, At::Dataset(A, key(1, 1, 1, 2)), (1, 4, true), &[])?;
-    assert!(rt; !covers(alloc, &g, &scope, &next_leaf, &[])?);
+    let g = rewritten_alone(rt.alloc())?;
+    let places = [
+        (key(0, 0, 0, 2), true),
+        (key(32, 0, 0, 1), false),
+        (key(1, 1, 1, 2), false),
+    ];
+    for (k, wanted) in places {
+        let at = At::Dataset(A, k);
+        let covers = covered(rt.alloc(), &g, 6, at, (1, 4, true), &[], &[])?;
+        assert_eq!(rt; covers, wanted, "at {k:?}");
+    }
     Ok(())
 }
 
 /// A block born in the last transaction group of a pass is the pass's, one born in its first is not.
 #[test]
 fn a_pass_has_its_last_group_and_not_its_first(rt: HostRuntime) -> Result<(), AllocError> {
-    let alloc = rt.alloc();
-    let g = rewritten_alone(alloc)?;
-    let pass = scan(alloc, At::Dataset(A, BEHIND_TOP), (3, 5, false), &[])?;
-    let old = super::block(BEHIND_TOP, 320, 3);
-    let young = super::block(BEHIND_TOP, 347, 5);
-    assert!(rt; !is_ahead(alloc, &g, &pass, A, &old)? && is_ahead(alloc, &g, &pass, A, &young)?);
+    let g = rewritten_alone(rt.alloc())?;
+    let pass = scan(rt.alloc(), At::Dataset(A, BEHIND_TOP), (3, 5, false), &[])?;
+    for (sector, birth, wanted) in [(320, 3, false), (347, 5, true)] {
+        let entry = block(BEHIND_TOP, sector, birth);
+        assert_eq!(rt;
+            is_ahead(rt.alloc(), &g, &pass, A, &entry)?,
+            wanted,
+            "at {birth}"
+        );
+    }
     Ok(())
 }
