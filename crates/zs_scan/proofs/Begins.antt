@@ -8,7 +8,7 @@ use Rattle.zs_phys.specs.declared.scope.Scope.{Scope}
 use Rattle.zs_phys.specs.declared.scope.Kind.TheVariants.{Idle, Scrub}
 use Rattle.zs_cover.specs.Laws.{MayStart}
 use Rattle.zs_cover.proofs.Starts.{start_keeps}
-use Rattle.zs_scan.specs.View.{ScanView, is_done}
+use Rattle.zs_scan.specs.View.{ScanView, is_done, is_stored}
 use Rattle.zs_scan.specs.Covered.{IsScanOf}
 use Rattle.zs_scan.specs.Steps.{emptied, scrub_scope, scrub_started}
 
@@ -32,6 +32,7 @@ scrub_may old t h by = record { runs = scrub≢idle; ends = omega (arith, by); l
 scrub_keeps : (v : ScanView) (t away room : ℕ) → KeepsFrom t v (record (scrub_started t away v) { room = room })
 scrub_keeps v t away room own g n h by is = record {
   covered = start_keeps own g n h (scrub_scope v.scope t) away (is_done (record (scrub_started t away v) { room = room })) is.covered.early is.covered.valid (scrub_may v.scope t h by);
+  stored = start_keeps own g n h (scrub_scope v.scope t) away (is_stored (record (scrub_started t away v) { room = room })) is.covered.early is.covered.valid (scrub_may v.scope t h by);
   live = record { waiting = λ e none. absurd none; flying = λ b i here item (flies : None ≡ Some (Some b.number)). cc };
   in_room = is.in_room;
 }

@@ -34,9 +34,10 @@ idle_sound g h devices width = record {
 }
 
 -- and so does such a scan
-pub blank_own : (v : ScanView) (devices width limit ledger_room : ℕ) → v ≡ blank_scan devices width limit ledger_room → (room : Room) (g : Graph) (n h : ℕ) → n ≤ h → Valid room g n → IsScanOf room g n h v
-blank_own v devices width limit ledger_room is room g n h early valid = subst (λ (x : ScanView). IsScanOf room g n h x) (sym is) (record {
+pub blank_own : (v : ScanView) (devices width limit every ledger_room : ℕ) → v ≡ blank_scan devices width limit every ledger_room → (room : Room) (g : Graph) (n h : ℕ) → n ≤ h → Valid room g n → IsScanOf room g n h v
+blank_own v devices width limit every ledger_room is room g n h early valid = subst (λ (x : ScanView). IsScanOf room g n h x) (sym is) (record {
   covered = record { early = early; valid = valid; sound = idle_sound g h devices width; covers = record { covered = λ claim d e p home piece in_range. cc } };
+  stored = record { early = early; valid = valid; sound = idle_sound g h devices width; covers = record { covered = λ claim d e p home piece in_range. cc } };
   live = record { waiting = λ e none. absurd none; flying = λ b i none. absurd none };
   in_room = λ b i none. absurd none;
 })

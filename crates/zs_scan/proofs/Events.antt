@@ -46,7 +46,7 @@ at_end (events.swapped a b) s nowhere walked = (ap (λ (x : At). moved (exchange
 at_end (events.went_away dev) s nowhere walked = (nowhere, walked)
 
 -- a scan that is complete stays so at each event
-pub handled_complete : (old new : ScanView) (e : Event) → Handled old.run e new.run → new ≡ record old { run = new.run } → IsComplete old → IsComplete new
+pub handled_complete : (old new : ScanView) (e : Event) → Handled old.run e new.run → new ≡ record old { run = new.run; kept = new.kept } → IsComplete old → IsComplete new
 handled_complete old new e came is complete =
     let over = at_end e old.run complete.nowhere complete.walked in
     subst IsComplete (sym is) (record {

@@ -121,6 +121,7 @@ module _ (v : ScanView) (items : List Item) (marks : List (Piece × Mark)) (room
   after_is : KeepsFreed items v after
   after_is own g n h but = record {
     covered = later_covered own g n h h v.scope v.run (is_done v) (is_done after) but.covered (le_refl h) (λ p live done. done_stays g but.live.dead p live done);
+    stored = but.stored;
     live = record {
       waiting = λ e i. elim (but.live.waiting e (has-filter _ v.waiting e i).0) [ inl one ↦ absurd (none_waits e i one) | inr block ↦ block ];
       flying = λ b i here item flies. elim (but.live.flying b i here item (was_marked i.piece (Some b.number) flies)) [ inl one ↦ absurd (none_marked i.piece (Some b.number) flies one) | inr block ↦ block ];

@@ -30,6 +30,7 @@ module _ (v : ScanView) (piece : Piece) (marks : List (Piece × Mark)) (room : �
   after_is : (own : Room) (g : Graph) (n h : ℕ) → (IsLive g piece → ⊥) → IsScanOf own g n h v → IsScanOf own g n h after
   after_is own g n h dead is = record {
     covered = later_covered own g n h h v.scope v.run (is_done v) (is_done after) is.covered (le_refl h) (λ p live done. done_stays g dead p live done);
+    stored = is.stored;
     live = record {
       waiting = λ e h. is.live.waiting e (has-filter _ v.waiting e h).0;
       flying = λ b i here item flies. is.live.flying b i here item (kept_mark v.marks marks piece i.piece (Some b.number) as_before flies);

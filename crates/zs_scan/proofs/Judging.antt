@@ -1,5 +1,5 @@
 -- What a verdict leaves of a scan is orderly again.
-use Rattle.std.proofs.Common.{◌≡◌, ℕ, ◌≤◌, ◌==◌, ◌&&◌, ◌||◌, ◌++◌, Bool, true, false, not, cond, List, [], ◌∷◌, map, filter, length, refl, sym, ◌∙◌, ap, subst, inl, inr, eq-eqb, eqb-true}
+use Rattle.std.proofs.Common.{◌≡◌, ℕ, ◌≤◌, ◌==◌, ◌&&◌, ◌||◌, ◌++◌, Bool, true, false, not, cond, List, [], ◌∷◌, map, filter, length, refl, sym, ◌∙◌, ap, subst, inl, inr, eq-eqb, eqb-true, length-append, arith}
 use Rattle.std.specs.Prelude.{Option, Some, None}
 use Rattle.std.specs.List.{AllByRecursion}
 use Rattle.std.specs.List.Sorted.{IsStrictlySortedBy}
@@ -168,6 +168,8 @@ module _ (v : ScanView) (number : ℕ) (entries checked : List Entry) (marks : L
     idle = λ rests. none_marked_at marks (λ q. judged_marks q ∙ ap (λ (l : List (Piece × Mark)). cond (flies_in number (mark_of l q)) None (mark_of l q)) (kept.idle rests));
     landing = enough;
     copies = λ e h. elim (from-append v.checked (still_flying v.marks number entries) e (subst (λ (l : List Entry). Has l e) adds h)) [ inl old ↦ kept.copies e old | inr new ↦ have e (has-filter _ entries e new).0 ];
+    same_status = kept.same_status;
+    stored = subst (λ (l : List Entry). v.stored ≤ length l) (sym adds) (let few : v.stored ≤ length v.checked = kept.stored in let both = length-append v.checked (still_flying v.marks number entries) in omega (arith, few, both));
   }
     where
       marked : (p : Piece) → flies_in number (mark_of v.marks p) ≡ true → has_piece v.checked p ≡ false

@@ -16,7 +16,8 @@ pub mod Later
 pub mod Verdicts
 pub mod Added
 pub mod Finishes
-pub mod Resumes
+pub mod Pauses
+pub mod Stops
 pub mod Begins
 pub mod Freeings
 pub mod Putting

@@ -1,5 +1,5 @@
 -- What each call leaves of a scan is orderly again.
-use Rattle.std.proofs.Common.{◌≡◌, ℕ, ◌+◌, ◌≤◌, ◌||◌, ◌++◌, Bool, true, false, cond, List, [], ◌∷◌, filter, length, refl, sym, ◌∙◌, ap, subst, inl, inr, ◌⊎◌, arith, is_some}
+use Rattle.std.proofs.Common.{◌≡◌, ◌≢◌, ℕ, ◌+◌, ◌≤◌, ◌||◌, ◌++◌, Bool, true, false, cond, List, [], ◌∷◌, filter, length, refl, sym, ◌∙◌, ap, subst, inl, inr, ◌⊎◌, arith, is_some}
 use Rattle.std.specs.Prelude.{Option, Some, None}
 use Rattle.std.specs.List.Sorted.{IsStrictlySortedBy}
 use Rattle.zs_ids.specs.declared.block.Piece.{Piece}
@@ -20,9 +20,8 @@ use Rattle.zs_scan.specs.View.{Mark, ScanView, is_same, mark_of, is_waiting, is_
 use Rattle.zs_scan.specs.Kept.{IsOrderly}
 use Rattle.zs_queue.specs.Lowest.{lowest_is_batch}
 use Rattle.zs_phys.specs.declared.scope.Scope.{Scope}
-use Rattle.zs_phys.specs.declared.phys.At.TheVariants.{Nowhere}
-use Rattle.zs_phys.specs.declared.todos.Todo.{Todo}
-use Rattle.zs_phys.specs.Sound.{first_todo}
+use Rattle.zs_cover.specs.Laws.{started}
+use Rattle.std.proofs.Math.Nat.{le_refl}
 use Rattle.zs_scan.specs.Steps.{Freed, Taken, scrub_scope, scrub_started}
 use Rattle.zs_scan.proofs.Pieces.{same_is, same_itself}
 use Rattle.zs_scan.proofs.Flights.{HaveFlown}
@@ -56,6 +55,8 @@ freed_orderly v piece waiting limit marks kept queue is as_before room = record 
   idle = λ rests. none_marked_at marks (λ q. as_before q ∙ ap (λ (l : List (Piece × Mark)). cond (is_same piece q) None (mark_of l q)) (kept.idle rests) ∙ neither (is_same piece q));
   landing = room;
   copies = kept.copies;
+  same_status = kept.same_status;
+  stored = kept.stored;
 }
   where
     left : (b : Bool) (p : Piece) → is_same piece p ≡ b → cond (is_same piece p || false) false (waits v.waiting p) ≡ is_waiting (mark_of marks p)
@@ -101,6 +102,8 @@ module _ (v : ScanView) (b : Batch) (waiting : List (Piece × Item)) (limit : �
     idle = λ rests. none_marked_at marks (λ q. flown q ∙ idle_at q (kept.idle rests) (has_item b.items q) refl);
     landing = enough;
     copies = kept.copies;
+    same_status = kept.same_status;
+    stored = kept.stored;
   }
     where
       some_nat : (x y : ℕ) → Some x ≡ Some y → x ≡ y
@@ -132,23 +135,30 @@ nothing_marked v kept drained landed = none_marked_at v.marks (λ q. unmarked q 
         let f = kept.flies q b is in
         absurd (subst (λ (l : List Batch). Has l f.batch) landed f.here)
 
--- a scan finishes: nothing waits or flies
-pub finished_orderly : (v : ScanView) (run : Phys) → IsOrderly v → v.waiting ≡ [] → v.flight ≡ [] → IsOrderly (record v { run = run })
-finished_orderly v run kept drained landed = record {
-  once = kept.once;
-  unchecked = kept.unchecked;
-  waits = kept.waits;
-  ordered = kept.ordered;
-  named = kept.named;
-  within = kept.within;
-  scoped = kept.scoped;
-  flies = kept.flies;
-  rising = kept.rising;
-  numbers = kept.numbers;
-  idle = λ rests. nothing_marked v kept drained landed;
-  landing = kept.landing;
-  copies = kept.copies;
-}
+-- a scan is over, or a checkpoint is made: nothing waits or flies
+module _ (v : ScanView) (run copy : Phys) (stored saved : ℕ) (kept : IsOrderly v) (drained : v.waiting ≡ []) (landed : v.flight ≡ []) (copied : copy ≡ run) (all : stored ≡ length v.checked) where
+  pub drained_orderly : (run.status ≢ Scanning → v.marks ≡ []) → IsOrderly (record v { run = run; kept = copy; stored = stored; saved = saved })
+  drained_orderly idle = rw (copied, all) (record {
+    once = kept.once;
+    unchecked = kept.unchecked;
+    waits = kept.waits;
+    ordered = kept.ordered;
+    named = kept.named;
+    within = kept.within;
+    scoped = kept.scoped;
+    flies = kept.flies;
+    rising = kept.rising;
+    numbers = kept.numbers;
+    idle = idle;
+    landing = kept.landing;
+    copies = kept.copies;
+    same_status = refl;
+    stored = le_refl (length v.checked);
+  })
+
+  -- a scan finishes
+  pub finished_orderly : IsOrderly (record v { run = run; kept = copy; stored = stored; saved = saved })
+  finished_orderly = drained_orderly (λ rests. nothing_marked v kept drained landed)
 
 pub taken_step : (v now : ScanView) (b : Batch) (waiting : List (Piece × Item)) (limit : ℕ) (marks : List (Piece × Mark)) (batches room : ℕ) → v ≡ now → waiting ≡ without v.waiting (pieces_in b.items) → limit ≡ v.limit → batches ≡ v.batches + 1 → HaveFlown v.marks marks b.number b.items
     → Taken now b (record v { waiting = waiting; limit = limit; marks = marks; flight = v.flight ++ b ∷ []; batches = batches; room = room })
@@ -194,10 +204,10 @@ lowest_few es vdev n =
     (omega (arith, mapped, taken), omega (arith, mapped, taken, passed))
 
 -- a scrub has started
-pub started_is : (v now : ScanView) (t away : ℕ) (scope : Scope) (todo : List Todo) (checked : List Entry) (room : ℕ) (waiting : List (Piece × Item)) (limit : ℕ) (marks : List (Piece × Mark)) → v ≡ now → scope ≡ scrub_scope v.scope t → todo ≡ first_todo → checked ≡ [] → waiting ≡ [] → limit ≡ v.limit → marks ≡ []
-    → record v { scope = scope; run = record { status = Scanning; paused = false; away = away; at = Nowhere; curmin = 0; curmax = 0; again = false; todo = todo }; checked = checked; room = room; waiting = waiting; limit = limit; marks = marks }
+pub started_is : (v now : ScanView) (t away : ℕ) (scope : Scope) (run kept : Phys) (checked : List Entry) (room : ℕ) (waiting : List (Piece × Item)) (limit : ℕ) (marks : List (Piece × Mark)) → v ≡ now → scope ≡ scrub_scope v.scope t → run ≡ started away → kept ≡ run → checked ≡ [] → waiting ≡ [] → limit ≡ v.limit → marks ≡ []
+    → record v { scope = scope; run = run; kept = kept; stored = 0; saved = t; checked = checked; room = room; waiting = waiting; limit = limit; marks = marks }
     ≡ record (scrub_started t away now) { room = room }
-started_is v now t away scope todo checked room waiting limit marks same scrubs first none empty keeps unmarked = rw (scrubs, first, none, empty, keeps, unmarked) (ap (λ (o : ScanView). record (scrub_started t away o) { room = room }) same)
+started_is v now t away scope run kept checked room waiting limit marks same scrubs first copied none empty keeps unmarked = rw (scrubs, copied, first, none, empty, keeps, unmarked) (ap (λ (o : ScanView). record (scrub_started t away o) { room = room }) same)
 
 -- the batch that was taken, by the queue's own words
 pub taken_is : (v : ScanView) (b : Batch) (items : List Item) (vdev n : ℕ) (checked : List Entry) (waiting : List (Piece × Item)) (limit : ℕ) (marks : List (Piece × Mark)) (flight : List Batch) (batches room : ℕ) → IsOrderly v → IsQueue waiting limit → b.number ≡ v.batches → items ≡ lowest v.waiting vdev n → b.items ≡ items

@@ -123,6 +123,8 @@ module _ (v : ScanView) (item : Item) (waiting : List (Piece × Item)) (limit : 
     idle = λ rests. absurd (rests may.scans);
     landing = let low : length (filter is_flying v.marks) ≤ v.room = kept.landing in omega (arith, low, same_count);
     copies = kept.copies;
+    same_status = kept.same_status;
+    stored = kept.stored;
   }
     where
       agree : (p : Piece) (x : Bool) → is_same item.piece p ≡ x → cond (is_same item.piece p) true (waits v.waiting p) ≡ is_waiting (mark_of marks p)
@@ -132,9 +134,9 @@ module _ (v : ScanView) (item : Item) (waiting : List (Piece × Item)) (limit : 
   pub put_step : (now : ScanView) → v ≡ now → limit ≡ v.limit → length v.waiting < v.limit → Put now item (record v { waiting = waiting; limit = limit; marks = marks })
   put_step now same keeps room = subst (λ (o : ScanView). Put o item (record v { waiting = waiting; limit = limit; marks = marks })) same (record { room = room; rest = rw (is, keeps) refl; marks = marked })
 
--- a state of the walk with the same status
-pub run_orderly : (v : ScanView) (run : Phys) → IsOrderly v → run.status ≡ v.run.status → IsOrderly (record v { run = run })
-run_orderly v run kept same = record {
+-- states with the same status
+pub told_orderly : (v : ScanView) (run run' : Phys) → IsOrderly v → run.status ≡ v.run.status → run'.status ≡ v.kept.status → IsOrderly (record v { run = run; kept = run' })
+told_orderly v run run' kept same same' = record {
   once = kept.once;
   unchecked = kept.unchecked;
   waits = kept.waits;
@@ -148,7 +150,13 @@ run_orderly v run kept same = record {
   idle = λ rests. kept.idle (λ scans. rests (same ∙ scans));
   landing = kept.landing;
   copies = kept.copies;
+  same_status = same' ∙ kept.same_status ∙ sym same;
+  stored = kept.stored;
 }
+
+-- a state of the walk with the same status
+pub run_orderly : (v : ScanView) (run : Phys) → IsOrderly v → run.status ≡ v.run.status → IsOrderly (record v { run = run })
+run_orderly v run kept same = told_orderly v run v.kept kept same refl
 
 -- a turn leaves the status
 pub advanced_status : (g : Graph) (scope : Scope) (s : Phys) (step : Step) → (advanced g scope s step).status ≡ s.status

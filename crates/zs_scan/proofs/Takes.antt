@@ -21,13 +21,14 @@ use Rattle.zs_scan.proofs.InRoom.{block_in_room}
 
 -- the room of the ledger tells nothing of the datasets
 pub room_keeps : (room : Room) (g : Graph) (n h : ℕ) (v : ScanView) (r : ℕ) → IsScanOf room g n h v → IsScanOf room g n h (record v { room = r })
-room_keeps room g n h v r was = record { covered = was.covered; live = record { waiting = was.live.waiting; flying = was.live.flying }; in_room = was.in_room }
+room_keeps room g n h v r was = record { covered = was.covered; stored = was.stored; live = record { waiting = was.live.waiting; flying = was.live.flying }; in_room = was.in_room }
 
 -- a batch of the lowest pieces was taken
 pub taken_keeps : (old new : ScanView) (b : Batch) (vdev most : ℕ) → IsOrderly old → b.number ≡ old.batches → b.items ≡ lowest old.waiting vdev most → Taken old b new → Keeps old new
 taken_keeps old new b vdev most kept number items taken = λ room g n h was.
     subst (λ (v : ScanView). IsScanOf room g n h v) (sym taken.rest) (record {
       covered = later_keeps room g n h h old.scope old.run (is_done old) (λ p. has_piece old.checked p || is_some (mark_of new.marks p)) was.covered (omega arith) (λ p live done. still p (has_item b.items p) refl done);
+      stored = was.stored;
       live = record {
         waiting = λ e has. was.live.waiting e (has-filter _ old.waiting e has).0;
         flying = λ c i here has there. elim (from-last old.flight b c here) [

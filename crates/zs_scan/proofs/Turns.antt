@@ -121,6 +121,7 @@ module _ (room : Room) (g : Graph) (n h : ℕ) (v : ScanView) (one : HasOnePlace
   passed : item_put v step ≡ None → IsScanOf room g n h (record v { run = advanced g v.scope v.run step })
   passed none = record {
     covered = turned (is_done v) (λ p done. done) (λ p has. absurd (subst (λ (o : Option Item). Has (put_pieces o) p) none has));
+    stored = was.stored;
     live = record { waiting = was.live.waiting; flying = was.live.flying };
     in_room = was.in_room;
   }
@@ -129,6 +130,7 @@ module _ (room : Room) (g : Graph) (n h : ℕ) (v : ScanView) (one : HasOnePlace
   put_keeps : (item : Item) (marks : List (Piece × Mark)) → item_put v step ≡ Some item → MarksAs v.marks marks item.piece (Some None) → IsScanOf room g n h (record v { run = advanced g v.scope v.run step; waiting = with_item v.waiting item; marks = marks })
   put_keeps item marks puts marked = record {
     covered = turned (λ p. has_piece v.checked p || is_some (mark_of marks p)) (λ p done. still p (is_same item.piece p) refl done) (λ p has. elim (subst (λ (o : Option Item). Has (put_pieces o) p) puts has) [ inl is ↦ subst (λ (q : Piece). IsTrue (has_piece v.checked q || is_some (mark_of marks q))) is itself | inr none ↦ absurd none ]);
+    stored = was.stored;
     live = record {
       waiting = λ e has. elim (put_waits v.waiting item.piece item e has) [
         | inl new ↦ subst (λ (i : Item). IsOfBlock g i.piece i.sectors i.sum) (sym new) (put_live g v step item one comes placed puts)

@@ -3,7 +3,9 @@ use Rattle.std.proofs.Common.{◌≡◌, ℕ, ◌==◌, ◌||◌, ◌++◌, Bool
 use Rattle.std.specs.Prelude.{Option, Some, None}
 use Rattle.std.proofs.Math.Bool.{or-true}
 use Rattle.std.proofs.Math.Nat.{le_refl}
+use Rattle.std.proofs.lemmas.List.{take-append-le}
 use Rattle.std.proofs.lemmas.List.Folds.{list_any-append}
+use Rattle.zs_cover.specs.Laws.{IsCovered}
 use Rattle.zs_ids.specs.declared.block.Piece.{Piece}
 use Rattle.zs_ledger.specs.declared.entry.Entry.{Entry}
 use Rattle.zs_ids.specs.Piece.{is_piece}
@@ -72,6 +74,7 @@ module _ (v : ScanView) (number : ℕ) (entries : List Entry) (marks : List (Pie
   after_is : Keeps v after
   after_is own g n h is = record {
     covered = later_covered own g n h h v.scope v.run (is_done v) (is_done after) is.covered (le_refl h) (λ p live done. done_stays p done);
+    stored = subst (λ (l : List Entry). IsCovered own g n h v.scope v.kept (λ p. has_piece l p)) (sym (take-append-le v.stored v.checked (still_flying v.marks number entries) kept.stored)) is.stored;
     live = record {
       waiting = is.live.waiting;
       flying = λ b i here item flies. is.live.flying b i (has-filter (λ (x : Batch). not (x.number == number)) v.flight b here).0 item (was i.piece (Some b.number) flies);

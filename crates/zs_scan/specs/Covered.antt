@@ -11,7 +11,7 @@ use Rattle.zs_phys.specs.declared.scope.Scope.{Scope}
 use Rattle.zs_phys.specs.Scope.{in_scope}
 use Rattle.zs_cover.specs.Laws.{IsCovered}
 use Rattle.zs_scan.specs.declared.batch.Batch.{Batch}
-use Rattle.zs_scan.specs.View.{ScanView, mark_of, is_done}
+use Rattle.zs_scan.specs.View.{ScanView, mark_of, is_done, is_stored}
 
 -- the pieces that wait and those that fly are live, and their items have the size and sum of the piece's pointer
 pub record AreLive (g : Graph) (v : ScanView) : Type 0 where
@@ -38,17 +38,25 @@ RoomLaw =
     (room : Room) (g : Graph) (n : ℕ) (piece : Piece) (sectors : ℕ) (sum : List ℕ) → Valid room g n → IsOfBlock g piece sectors sum
     → IsInRoom room (record { piece = piece; sectors = sectors; sum = sum })
 
+-- the state that is kept for a crash is sound and covers the datasets, with what is stored as checked as done: queue and
+-- flight are lost in a crash
+abbrev pub IsStoredOf : Room → Graph → ℕ → ℕ → ScanView → Type 0
+IsStoredOf room g n h v = IsCovered room g n h v.scope v.kept (is_stored v)
+
 -- the scan belongs to the datasets, whose blocks are born by n and which lie in the room, where the tasks of the
--- transaction group h come next: its state is sound and covers them, with what is checked, waits or flies as done; what
--- waits or flies is live; and what is in flight lies in the room, also what was freed since
+-- transaction group h come next: its state is sound and covers them, with what is checked, waits or flies as done; so does
+-- the state that is kept for a crash; what waits or flies is live; and what is in flight lies in the room, also what was
+-- freed since
 pub record IsScanOf (room : Room) (g : Graph) (n h : ℕ) (v : ScanView) : Type 0 where
   pub covered : IsCovered room g n h v.scope v.run (is_done v)
+  pub stored : IsStoredOf room g n h v
   pub live : AreLive g v
   pub in_room : (b : Batch) (i : Item) → Has v.flight b → Has b.items i → IsInRoom room i
 
 -- the scan is the datasets' own but for these pieces, which were freed and of which it has not been told
 pub record IsScanBut (gone : List Piece) (room : Room) (g : Graph) (n h : ℕ) (v : ScanView) : Type 0 where
   pub covered : IsCovered room g n h v.scope v.run (is_done v)
+  pub stored : IsStoredOf room g n h v
   pub live : AreLiveBut gone g v
   pub in_room : (b : Batch) (i : Item) → Has v.flight b → Has b.items i → IsInRoom room i
 

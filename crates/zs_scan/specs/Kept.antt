@@ -48,5 +48,8 @@ pub record IsOrderly (v : ScanView) : Type 0 where
   pub numbers : RisesTo v.batches v.flight
   pub idle : v.run.status ≢ Scanning → v.marks ≡ []
   pub copies : HaveCopies v.scope.width v.checked
+  -- the state that is kept runs where this one does, and speaks of entries that there are
+  pub same_status : v.kept.status ≡ v.run.status
+  pub stored : v.stored ≤ length v.checked
   -- there is room for the entries of all that fly
   pub landing : length (filter is_flying v.marks) ≤ v.room

@@ -1,5 +1,5 @@
 -- What each call makes of a scan.
-use Rattle.std.specs.Prelude.{◌≡◌, ℕ, ◌+◌, ◌==◌, ◌&&◌, Bool, true, false, not, List, [], ◌∷◌, ◌++◌, map, filter, replicate, Some, None, if◌then◌else◌}
+use Rattle.std.specs.Prelude.{◌≡◌, ℕ, ◌+◌, ◌==◌, ◌&&◌, Bool, true, false, not, List, [], ◌∷◌, ◌++◌, length, map, filter, replicate, Some, None, if◌then◌else◌}
 use Rattle.zs_ids.specs.declared.block.Piece.{Piece}
 use Rattle.zs_ids.specs.declared.block.Item.{Item}
 use Rattle.zs_ids.specs.Graph.{Has}
@@ -12,7 +12,8 @@ use Rattle.zs_phys.specs.Handlers.{idle}
 use Rattle.zs_cover.specs.Laws.{started}
 use Rattle.zs_walk.specs.Walking.{runs}
 use Rattle.zs_phys.specs.declared.phys.At.TheVariants.{Nowhere}
-use Rattle.zs_phys.specs.declared.phys.Status.TheVariants.{Scanning, Finished}
+use Rattle.zs_phys.specs.declared.phys.Phys.{Phys}
+use Rattle.zs_phys.specs.declared.phys.Status.TheVariants.{Scanning, Finished, Canceled}
 use Rattle.std.specs.List.{list_any}
 use Rattle.std.specs.List.Sorted.{IsStrictlySortedBy}
 use Rattle.zs_ids.specs.Piece.{piece_cmp}
@@ -31,10 +32,14 @@ abbrev pub no_scope : ℕ → ℕ → Scope
 no_scope devices width = record { kind = Idle; min = 0; max = 0; width = width; dirty0 = replicate devices [] }
 
 -- a scan that never ran
-abbrev pub blank_scan : ℕ → ℕ → ℕ → ℕ → ScanView
-blank_scan devices width limit room = record {
+abbrev pub blank_scan : ℕ → ℕ → ℕ → ℕ → ℕ → ScanView
+blank_scan devices width limit every room = record {
   scope = no_scope devices width;
   run = idle;
+  kept = idle;
+  stored = 0;
+  saved = 0;
+  every = every;
   checked = [];
   room = room;
   waiting = [];
@@ -52,9 +57,31 @@ emptied sets = map (λ _. []) sets
 abbrev pub scrub_scope : Scope → ℕ → Scope
 scrub_scope old t = record { kind = Scrub; min = 0; max = t; width = old.width; dirty0 = emptied old.dirty0 }
 
--- a scrub starts: nothing is checked, waits or flies; the batches in flight stay there, and get no entries
+-- a scrub starts: nothing is checked, waits or flies; the batches in flight stay there, and get no entries. A crash leaves
+-- a scrub that has just started
 abbrev pub scrub_started : ℕ → ℕ → ScanView → ScanView
-scrub_started t away v = record v { scope = scrub_scope v.scope t; run = started away; checked = []; waiting = []; marks = [] }
+scrub_started t away v = record v {
+  scope = scrub_scope v.scope t;
+  run = started away;
+  kept = started away;
+  stored = 0;
+  saved = t;
+  checked = [];
+  waiting = [];
+  marks = [];
+}
+
+-- a scrub is running, paused or not
+abbrev pub is_scrubbing : ScanView → Bool
+is_scrubbing v = runs v.run.status && is_scrub v.scope.kind
+
+-- the state paused, or not
+abbrev pub paused_as : Bool → Phys → Phys
+paused_as paused s = record s { paused = paused }
+
+-- a scan is paused or goes on, before a crash and after it; what waits and flies stays
+abbrev pub with_paused : Bool → ScanView → ScanView
+with_paused paused v = record v { run = paused_as paused v.run; kept = paused_as paused v.kept }
 
 -- a scan is running that is not a paused scrub
 abbrev pub is_busy : ScanView → Bool
@@ -62,7 +89,7 @@ is_busy v = runs v.run.status && not (v.run.paused && is_scrub v.scope.kind)
 
 -- a scrub starts, or one that is paused is resumed
 abbrev pub after_start : ℕ → ℕ → ScanView → ScanView
-after_start t away v = if runs v.run.status then record v { run = record v.run { paused = false } } else scrub_started t away v
+after_start t away v = if runs v.run.status then with_paused false v else scrub_started t away v
 
 -- a batch was taken: its pieces no longer wait, and fly in it
 pub record Taken (old : ScanView) (b : Batch) (new : ScanView) : Type 0 where
@@ -127,6 +154,27 @@ pub record IsComplete (v : ScanView) : Type 0 where
   pub drained : v.waiting ≡ []
   pub landed : v.flight ≡ []
 
+-- the scan is over in this state, before a crash and after it, with all its entries stored
+abbrev pub over : Phys → ScanView → ScanView
+over s v = record v { run = s; kept = s; stored = length v.checked }
+
 -- the scan has finished
 abbrev pub finished : ScanView → ScanView
-finished v = record v { run = record v.run { status = Finished } }
+finished v = over (record v.run { status = Finished }) v
+
+-- the state of a scan that was stopped: nothing is left to walk
+abbrev pub canceled : Phys → Phys
+canceled s = record s { status = Canceled; paused = false; at = Nowhere; curmin = 0; curmax = 0; again = false; todo = [] }
+
+-- the scan was stopped: what waited and flew is given up; the batches in flight stay there, and get no entries
+abbrev pub stopped : ScanView → ScanView
+stopped v = record (over (canceled v.run) v) { waiting = []; marks = [] }
+
+-- nothing waits, and no batch is in flight
+pub record IsDrained (v : ScanView) : Type 0 where
+  pub drained : v.waiting ≡ []
+  pub landed : v.flight ≡ []
+
+-- a checkpoint was made in a transaction group: a crash leaves the scan as it is
+abbrev pub checkpointed : ℕ → ScanView → ScanView
+checkpointed t v = record v { kept = v.run; stored = length v.checked; saved = t }

@@ -1,5 +1,5 @@
 -- What contracts see of a scan.
-use Rattle.std.specs.Prelude.{◌≡◌, ℕ, ◌==◌, ◌||◌, Bool, true, false, List, map, Option, Some, None, is_some, if◌then◌else◌}
+use Rattle.std.specs.Prelude.{◌≡◌, ℕ, ◌==◌, ◌||◌, Bool, true, false, List, map, take, Option, Some, None, is_some, if◌then◌else◌}
 use Rattle.std.specs.Ordering.{is_eq}
 use Rattle.std.specs.Map.{lookup}
 use Rattle.std.specs.BTreeMap.{is_at}
@@ -21,6 +21,14 @@ pub record ScanView : Type 0 where
   -- what the scan examines, and where its walk stands
   pub scope : Scope
   pub run : Phys
+  -- the state that a crash leaves: that of the last checkpoint, with what changes of the datasets, pausing and resuming have
+  -- made of it since
+  pub kept : Phys
+  -- how many of the checked entries are stored with it
+  pub stored : ℕ
+  -- the transaction group of that checkpoint, or of the start, and after how many more the next one is due
+  pub saved : ℕ
+  pub every : ℕ
   -- what it has checked, in order, and for how many more entries there is room
   pub checked : List Entry
   pub room : ℕ
@@ -69,6 +77,10 @@ is_flying e = is_some e.1
 -- a piece is done: it is checked, waits or flies
 abbrev pub is_done : ScanView → Piece → Bool
 is_done v p = has_piece v.checked p || is_some (mark_of v.marks p)
+
+-- a piece is stored as checked: it has an entry among those that are stored
+abbrev pub is_stored : ScanView → Piece → Bool
+is_stored v p = has_piece (take v.stored v.checked) p
 
 -- the pieces of some items
 abbrev pub pieces_in : List Item → List Piece

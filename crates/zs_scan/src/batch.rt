@@ -38,6 +38,12 @@ pub enum Turn {
 pub enum ScanFault {
     /// A scan is running that is not a paused scrub.
     ScanBusy,
+    /// No scan is running, or for a pause no scrub.
+    NoScan,
+    /// The scrub is paused.
+    Paused,
+    /// No scrub is paused.
+    NotPaused,
     /// As many pieces wait as the limit allows.
     Full,
     /// Memory was wanting.

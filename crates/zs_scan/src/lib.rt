@@ -15,6 +15,7 @@
 //! an entry for each piece of its batch that was not freed and whose scan still runs, and for no other; each has the copies
 //! of a mirror of the scope's width. A freed piece leaves the queue, and gets no entry if it flies. A call that was refused
 //! leaves the scan as it was.
+//! All this holds as well of the state that a crash leaves (`kept`), with the stored entries as all that is done.
 //! Cost: a verdict reads the batches in flight in the order in which they were taken, up to its own.
 //!
 //! Why a scan may leave the walk behind. To the walk a piece is done as soon as it waits: the bookmark goes on, and the
@@ -25,6 +26,18 @@
 //! it waits it leaves the queue. If it is in flight its mark is taken off, and the verdict makes no entry for it: another
 //! block may come to lie in its sectors, so what was read says nothing of either. That block has a later birth, and is
 //! another piece.
+//!
+//! Why a kept state is enough after a crash. A crash loses queue, flight and bookmark, and leaves what was last stored: a
+//! state, and the entries that were made by then. At a checkpoint nothing waits and nothing flies, so all that the walk has
+//! passed has an entry: the state covers with the stored entries alone. Until the next checkpoint the scan goes on, and the
+//! datasets change; so each event of the datasets changes both states, by the same law, and what waits or was checked
+//! since is ahead of the kept one still. Should the pool be opened from there, it checks that again, and misses nothing.
+//!
+//! Why a kept state is enough after a crash. A crash loses queue, flight and bookmark, and leaves what was stored last: a
+//! state, and the entries that were made by then. At a checkpoint nothing waits and nothing flies, so all that the walk has
+//! passed has an entry: the state covers with the stored entries alone. Until the next checkpoint the scan goes on and the
+//! datasets change; each event of the datasets changes both states, by the same law, and what was met since is ahead of the
+//! kept one still. A pool that is opened from there checks that again, and misses nothing.
 //!
 //! Why a full queue loses nothing. The turn whose pieces would not all go in is not made: bookmark, queue and marks stay,
 //! and the block is met again when there is room.
@@ -39,6 +52,7 @@ pub mod handlers;
 mod landing;
 pub mod laws;
 mod marks;
+pub mod pausing;
 pub mod scan;
 mod scope;
 mod taking;

@@ -13,19 +13,20 @@ ghost use Rattle.zs_walk.specs.Walking.{runs};
 ghost use Rattle.zs_scan.specs.View.{ScanView, mark_of, is_flying, is_done};
 ghost use Rattle.zs_scan.specs.Covered.{AllAreChecked, AreLive, IsScanOf, Keeps, MayAllBeChecked};
 ghost use Rattle.zs_scan.specs.Kept.{IsOrderly};
-ghost use Rattle.zs_scan.specs.Steps.{blank_scan, is_busy, after_start, scrub_started, Taken, IsVerdict, Judged, Freed, IsComplete, finished, still_flying};
+ghost use Rattle.zs_scan.specs.Steps.{blank_scan, is_busy, after_start, scrub_started, with_paused, Taken, IsVerdict, Judged, Freed, IsComplete, IsDrained, finished, checkpointed, still_flying};
 
 use crate::batch::{Batch, ScanFault};
 use crate::landing::{land_all, remove_batch};
 use crate::marks::Marks;
+use crate::pausing::begin_walk;
 use crate::scope::{become_scrub, empty_sets};
 use crate::taking::{filled, fly_all, push_batch};
 use std::alloc::{AllocError, Global};
 use std::collections::VecDeque;
 use std::marker::Model;
-use zs_ids::{DsId, Item, Piece, Seq};
+use zs_ids::{Item, Piece, Seq};
 use zs_ledger::{Entry, Ledger};
-use zs_phys::{At, Kind, Phys, Scope, Status, Todo};
+use zs_phys::{At, Kind, Phys, Scope, Status};
 use zs_queue::{PlainQueue, Waiting};
 
 /// A scan.
@@ -34,6 +35,10 @@ pub struct Scan {
     pub(crate) alloc: Global,
     pub(crate) scope: Scope,
     pub(crate) run: Phys,
+    pub(crate) kept: Phys,
+    pub(crate) stored: usize,
+    pub(crate) saved: u64,
+    pub(crate) every: u32,
     pub(crate) ledger: Ledger,
     pub(crate) queue: PlainQueue,
     pub(crate) marks: Marks,
@@ -51,6 +56,10 @@ impl Model for Scan {
     ghost view = { λ s. record {
       scope = s.scope;
       run = s.run;
+      kept = s.kept;
+      stored = s.stored;
+      saved = s.saved;
+      every = s.every;
       checked = s.ledger.entries;
       room = s.ledger.room;
       waiting = s.queue.map.entries;
@@ -63,6 +72,10 @@ impl Model for Scan {
     ghost invariant = { λ s. IsOrderly (record {
       scope = s.scope;
       run = s.run;
+      kept = s.kept;
+      stored = s.stored;
+      saved = s.saved;
+      every = s.every;
       checked = s.ledger.entries;
       room = s.ledger.room;
       waiting = s.queue.map.entries;
@@ -75,13 +88,20 @@ impl Model for Scan {
 
 impl Scan {
     /// A scan that never ran, of a pool on so many devices, in mirrors of that width (1 to 4), for at most `limit` waiting
-    /// pieces. It may be that of any datasets.
-    pub fn blank(alloc: Global, devices: u8, width: u8, limit: u32) -> Result<Scan, AllocError>
-        ensures blank { IfOk result (λ s. s ≡ blank_scan devices width limit s.room) }
+    /// pieces, with a checkpoint due after `every` transaction groups. It may be that of any datasets.
+    pub fn blank(
+        alloc: Global,
+        devices: u8,
+        width: u8,
+        limit: u32,
+        every: u32,
+    ) -> Result<Scan, AllocError>
+        ensures blank { IfOk result (λ s. s ≡ blank_scan devices width limit every s.room) }
         ensures fresh { IfOk result (λ s. (room : Room) (g : Graph) (n h : ℕ) → n ≤ h → Valid room g n → IsScanOf room g n h s) }
     {
         let dirty0 = empty_sets(alloc, devices)?;
         let run = Phys::idle(alloc)?;
+        let kept = Phys::idle(alloc)?;
         Ok(Scan {
             alloc,
             scope: Scope {
@@ -92,6 +112,10 @@ impl Scan {
                 dirty0,
             },
             run,
+            kept,
+            stored: 0,
+            saved: 0,
+            every,
             ledger: Ledger::new(alloc),
             queue: PlainQueue::new(alloc, limit),
             marks: Marks::new(alloc),
@@ -119,6 +143,20 @@ impl Scan {
         ensures { result.now ≡ self.now.run }
     {
         &self.run
+    }
+
+    /// The walk's state as a crash would leave it.
+    pub fn kept(&self) -> &Phys
+        ensures { result.now ≡ self.now.kept }
+    {
+        &self.kept
+    }
+
+    /// How many of the checked entries are stored with it.
+    pub fn stored(&self) -> usize
+        ensures { result ≡ self.now.stored }
+    {
+        self.stored
     }
 
     /// What it has checked.
@@ -169,14 +207,13 @@ impl Scan {
     /// datasets, where `t` is not above the group whose tasks come next. Takes no memory.
     pub fn start_scrub(&mut self, t: u64, away: u32) -> Result<(), ScanFault>
         ensures busy { result ≡ Err ScanFault.ScanBusy ↔ IsTrue (is_busy self.old) }
-        ensures full { result ≢ Err ScanFault.Full }
-        ensures memory { result ≢ Err ScanFault.Memory }
+        ensures why { OnErr result (result ≡ Err ScanFault.ScanBusy) }
         ensures ok { OnOk result (self.new ≡ record (after_start t away self.old) { room = self.new.room }) }
         ensures err { OnErr result (self.new ≡ self.old) }
         ensures keeps { OnOk result ((room : Room) (g : Graph) (n h : ℕ) → t ≤ h → IsScanOf room g n h self.old → IsScanOf room g n h self.new) }
     {
         if self.is_running() {
-            return self.resume_scrub();
+            return self.go_on();
         }
         self.begin_scrub(t, away);
         Ok(())
@@ -197,36 +234,28 @@ impl Scan {
         ensures { self.new ≡ record (scrub_started t away self.old) { room = self.new.room } }
     {
         become_scrub(self.alloc, &mut self.scope, t);
-        self.run.status = Status::Scanning;
-        self.run.paused = false;
-        self.run.away = away;
-        self.run.at = At::Nowhere;
-        self.run.curmin = 0;
-        self.run.curmax = 0;
-        self.run.again = false;
-        self.run.todo.clear();
-        self.run.todo.push(Todo {
-            id: DsId::ORIGIN,
-            min: 0,
-        });
+        begin_walk(&mut self.run, away);
+        self.kept.copy_from(&self.run);
         self.ledger.clear();
+        self.stored = 0;
+        self.saved = t;
         self.queue.clear();
         self.marks.clear();
     }
 
-    /// Resumes a paused scrub.
-    fn resume_scrub(&mut self) -> Result<(), ScanFault>
+    /// A scan that is running goes on, where it is a paused scrub.
+    fn go_on(&mut self) -> Result<(), ScanFault>
         requires { runs self.old.run.status ≡ true }
         ensures busy { result ≡ Err ScanFault.ScanBusy ↔ IsTrue (is_busy self.old) }
-        ensures full { result ≢ Err ScanFault.Full }
-        ensures memory { result ≢ Err ScanFault.Memory }
-        ensures ok { OnOk result (self.new ≡ record self.old { run = record self.old.run { paused = false } }) }
+        ensures why { OnErr result (result ≡ Err ScanFault.ScanBusy) }
+        ensures ok { OnOk result (self.new ≡ with_paused false self.old) }
         ensures err { OnErr result (self.new ≡ self.old) }
+        ensures keeps { OnOk result (Keeps self.old self.new) }
     {
         if !self.run.paused || self.scope.kind != Kind::Scrub {
             return Err(ScanFault::ScanBusy);
         }
-        self.run.paused = false;
+        self.set_paused(false);
         Ok(())
     }
 
@@ -313,7 +342,7 @@ impl Scan {
     }
 
     /// Finishes the scan, and answers whether it did: exactly where it is complete. Each live piece in scope is checked
-    /// then, and the scan stays that of the datasets. Takes no memory.
+    /// then, and the scan stays that of the datasets, also after a crash. Takes no memory.
     pub fn finish(&mut self) -> bool
         ensures complete { IsTrue result ↔ IsComplete self.old }
         ensures done { result ≡ true → self.new ≡ finished self.old }
@@ -329,6 +358,25 @@ impl Scan {
             return false;
         }
         self.run.status = Status::Finished;
+        self.kept.copy_from(&self.run);
+        self.stored = self.ledger.len();
+        true
+    }
+
+    /// Makes a checkpoint in the transaction group `t`, and answers whether it did: exactly where nothing waits and no batch
+    /// is in flight. A crash leaves the scan as it is then, with all its entries. Takes no memory.
+    pub fn checkpoint(&mut self, t: u64) -> bool
+        ensures drained { IsTrue result ↔ IsDrained self.old }
+        ensures done { result ≡ true → self.new ≡ checkpointed t self.old }
+        ensures rest { result ≡ false → self.new ≡ self.old }
+        ensures keeps { Keeps self.old self.new }
+    {
+        if self.queue.count() != 0 || self.flight.len() != 0 {
+            return false;
+        }
+        self.kept.copy_from(&self.run);
+        self.stored = self.ledger.len();
+        self.saved = t;
         true
     }
 }

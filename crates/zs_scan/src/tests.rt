@@ -106,7 +106,7 @@ fn blocks(alloc: Global) -> Result<Flat, AllocError>
 
 #[test]
 fn a_blank_scan_rests(rt: HostRuntime) -> Result<(), Fail> {
-    let mut scan = Scan::blank(rt.alloc(), 2, 2, 8)?;
+    let mut scan = Scan::blank(rt.alloc(), 2, 2, 8, 4)?;
     scan.facts();
     assert!(rt; !scan.is_running() && !scan.is_in_flight() && !scan.is_done(PIECE));
     assert_eq!(rt;
@@ -122,7 +122,7 @@ fn a_blank_scan_rests(rt: HostRuntime) -> Result<(), Fail> {
 
 #[test]
 fn a_scrub_starts_at_the_origin(rt: HostRuntime) -> Result<(), Fail> {
-    let mut scan = Scan::blank(rt.alloc(), 2, 2, 8)?;
+    let mut scan = Scan::blank(rt.alloc(), 2, 2, 8, 4)?;
     assert!(rt; scan.start_scrub(4, 2).is_ok());
     assert!(rt; scan.is_running() && scan.scope().kind == Kind::Scrub && scan.scope().max == 4);
     assert!(rt; scan.scope().dirty0.len() == 2);
@@ -135,7 +135,7 @@ fn a_scrub_starts_at_the_origin(rt: HostRuntime) -> Result<(), Fail> {
 
 #[test]
 fn a_batch_of_nothing_is_not_in_flight(rt: HostRuntime) -> Result<(), Fail> {
-    let mut scan = Scan::blank(rt.alloc(), 2, 2, 8)?;
+    let mut scan = Scan::blank(rt.alloc(), 2, 2, 8, 4)?;
     match scan.take(0, 10, 3) {
         Ok(batch) => {
             assert!(rt; batch.items.len() == 0 && batch.vdev == 0 && batch.online == 3);
@@ -187,7 +187,7 @@ fn scrub(alloc: Global) -> Result<Scan, ScanFault>
     ensures scope { IfOk result (λ s. s.scope ≡ scrub_up_to 4) }
     ensures run { IfOk result (λ s. s.run ≡ started 0) }
 {
-    let mut scan = Scan::blank(alloc, 2, 2, 8)?;
+    let mut scan = Scan::blank(alloc, 2, 2, 8, 4)?;
     scan.start_scrub(4, 0)?;
     Ok(scan)
 }
@@ -424,6 +424,79 @@ fn freed_pieces_neither_wait_nor_fly(rt: HostRuntime) -> Result<(), Fail> {
         Some(scan) => {
             let mut scan = scan;
             assert!(rt; frees_both(&mut scan));
+        }
+        None => assert!(rt; false),
+    }
+    Ok(())
+}
+
+#[test]
+fn a_paused_scrub_goes_on(rt: HostRuntime) -> Result<(), Fail> {
+    let mut scan = Scan::blank(rt.alloc(), 2, 2, 8, 4)?;
+    assert!(rt; scan.pause() == Err(ScanFault::NoScan));
+    assert!(rt; scan.resume() == Err(ScanFault::NotPaused));
+    assert!(rt; scan.start_scrub(4, 0).is_ok() && scan.is_scrubbing());
+    assert!(rt; scan.resume() == Err(ScanFault::NotPaused));
+    assert!(rt; scan.pause().is_ok() && scan.run().paused && scan.kept().paused);
+    assert!(rt; scan.pause() == Err(ScanFault::Paused));
+    assert!(rt; scan.resume().is_ok() && !scan.run().paused && !scan.kept().paused);
+    assert!(rt; scan.pause().is_ok() && scan.start_scrub(9, 0).is_ok());
+    assert!(rt; !scan.run().paused && scan.scope().max == 4);
+    Ok(())
+}
+
+#[test]
+fn a_scan_is_stopped_once(rt: HostRuntime) -> Result<(), Fail> {
+    let mut scan = Scan::blank(rt.alloc(), 2, 2, 8, 4)?;
+    assert!(rt; scan.stop() == Err(ScanFault::NoScan));
+    assert!(rt; scan.start_scrub(4, 0).is_ok() && scan.pause().is_ok());
+    assert!(rt; scan.stop().is_ok() && scan.run().status == Status::Canceled);
+    assert!(rt; scan.kept().status == Status::Canceled && !scan.run().paused);
+    assert!(rt; scan.run().todo.len() == 0 && scan.stop() == Err(ScanFault::NoScan));
+    assert!(rt; scan.pause() == Err(ScanFault::NoScan));
+    Ok(())
+}
+
+/// Checks all that waits, and answers whether a checkpoint was made just when nothing waited or flew.
+fn saves_when_drained(scan: &mut Scan) -> bool {
+    if scan.checkpoint(5) || scan.kept().todo.len() != 1 {
+        return false;
+    }
+    let Some((_, 1)) = check_one(scan) else {
+        return false;
+    };
+    let Some((_, 1)) = check_one(scan) else {
+        return false;
+    };
+    scan.stored() == 0
+        && scan.checkpoint(5)
+        && scan.stored() == 2
+        && scan.kept().todo.len() == 0
+        && scan.kept().at.is_on(HEAD)
+}
+
+#[test]
+fn a_checkpoint_is_made_when_nothing_waits_or_flies(rt: HostRuntime) -> Result<(), Fail> {
+    match two_wait(rt.alloc()) {
+        Some(scan) => {
+            let mut scan = scan;
+            assert!(rt; saves_when_drained(&mut scan));
+        }
+        None => assert!(rt; false),
+    }
+    Ok(())
+}
+
+#[test]
+fn no_checkpoint_is_made_with_a_batch_in_flight(rt: HostRuntime) -> Result<(), Fail> {
+    match two_wait(rt.alloc()) {
+        Some(scan) => {
+            let mut scan = scan;
+            let two = scan.take(0, 2, 3).is_ok();
+            assert!(rt; two && scan.waiting() == 0 && scan.is_in_flight());
+            assert!(rt; !scan.checkpoint(5));
+            scan.snapshotted(HEAD, SNAPSHOT);
+            assert!(rt; scan.run().at.is_on(SNAPSHOT) && !scan.kept().at.is_on(SNAPSHOT));
         }
         None => assert!(rt; false),
     }

@@ -1,6 +1,6 @@
 //! The turns of the walk, with what they put into the queue.
 
-ghost use Rattle.std.specs.Prelude.{◌≡◌, ◌≢◌, ◌<◌, ◌≤◌, ℕ, true, false, length, Err, OnOk, OnErr, IfOk, IsErrOf, IfSome, is_some};
+ghost use Rattle.std.specs.Prelude.{◌≡◌, ◌≢◌, ◌<◌, ◌≤◌, ◌⊎◌, ℕ, true, false, length, Err, OnOk, OnErr, IfOk, IsErrOf, IfSome, is_some};
 ghost use Rattle.zs_ids.specs.GraphValid.{HasOnePlace, Room};
 ghost use Rattle.zs_queue.specs.Waiting.{waits, with_item};
 ghost use Rattle.zs_walk.specs.Left.{turns_left};
@@ -58,7 +58,7 @@ impl Scan {
             → turns_left (G.datasets graph.now) self.new.run < turns_left (G.datasets graph.now) self.old.run) }
         ensures full { IsErrOf result ScanFault.Full → IsFull (G.datasets graph.now) self.old }
         ensures refuses { IsFull (G.datasets graph.now) self.old → result ≡ Err ScanFault.Full }
-        ensures busy { IsErrOf result ScanFault.ScanBusy → ⊥ }
+        ensures why { OnErr result ((result ≡ Err ScanFault.Full) ⊎ (result ≡ Err ScanFault.Memory)) }
         ensures keeps { OnOk result ((room : Room) (n h : ℕ) → HasOnePlace (G.datasets graph.now) → self.old.scope.max ≤ h
             → IsScanOf room (G.datasets graph.now) n h self.old → IsScanOf room (G.datasets graph.now) n h self.new) }
         ensures err { OnErr result (self.new ≡ self.old) }
@@ -94,7 +94,7 @@ impl Scan {
         ensures ok { OnOk result (PutIf self.old item self.new) }
         ensures full { IsErrOf result ScanFault.Full → (is_some item ≡ true) × (length self.old.waiting ≡ self.old.limit) }
         ensures refuses { is_some item ≡ true → length self.old.waiting ≡ self.old.limit → result ≡ Err ScanFault.Full }
-        ensures busy { IsErrOf result ScanFault.ScanBusy → ⊥ }
+        ensures why { OnErr result ((result ≡ Err ScanFault.Full) ⊎ (result ≡ Err ScanFault.Memory)) }
         ensures err { OnErr result (self.new ≡ self.old) }
     {
         match item {
@@ -109,7 +109,7 @@ impl Scan {
         ensures ok { OnOk result (Put self.old item self.new) }
         ensures full { IsErrOf result ScanFault.Full → length self.old.waiting ≡ self.old.limit }
         ensures refuses { length self.old.waiting ≡ self.old.limit → result ≡ Err ScanFault.Full }
-        ensures busy { IsErrOf result ScanFault.ScanBusy → ⊥ }
+        ensures why { OnErr result ((result ≡ Err ScanFault.Full) ⊎ (result ≡ Err ScanFault.Memory)) }
         ensures err { OnErr result (self.new ≡ self.old) }
     {
         put_waiting(&mut self.queue, item)?;
@@ -132,7 +132,7 @@ fn put_waiting(queue: &mut PlainQueue, item: Item) -> Result<(), ScanFault>
         → ⟦<PlainQueue as Waiting>⟧.limit_of queue.old ≤ length (⟦<PlainQueue as Waiting>⟧.items queue.old) }
     ensures refuses { ⟦<PlainQueue as Waiting>⟧.limit_of queue.old ≤ length (⟦<PlainQueue as Waiting>⟧.items queue.old)
         → result ≡ Err ScanFault.Full }
-    ensures busy { IsErrOf result ScanFault.ScanBusy → ⊥ }
+    ensures why { OnErr result ((result ≡ Err ScanFault.Full) ⊎ (result ≡ Err ScanFault.Memory)) }
     ensures limit { ⟦<PlainQueue as Waiting>⟧.limit_of queue.new ≡ ⟦<PlainQueue as Waiting>⟧.limit_of queue.old }
     ensures err { OnErr result (⟦<PlainQueue as Waiting>⟧.items queue.new ≡ ⟦<PlainQueue as Waiting>⟧.items queue.old) }
 {

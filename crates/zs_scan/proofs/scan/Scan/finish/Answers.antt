@@ -9,7 +9,7 @@ pub invariant_of-self : goal.invariant_of-self
 invariant_of-self c =
     let drained : length c.self.inside.queue.map.entries ≡ 0 = search rules in
     let landed : length c.self.inside.flight.items ≡ 0 = search rules in
-    finished_orderly _ _ c.self.invariant (nil_from_length _ drained) (nil_from_length _ landed)
+    finished_orderly _ _ _ _ _ c.self.invariant (nil_from_length _ drained) (nil_from_length _ landed) c.copy_from.ensures c.len-self-inside.ensures
 
 pub returns-clause-complete : goal.returns-clause-complete
 returns-clause-complete c =
@@ -21,7 +21,7 @@ returns-clause-complete c =
     )
 
 pub returns-clause-keeps : goal.returns-clause-keeps
-returns-clause-keeps c = finish_keeps _ _ c.self.view_is ((returns-clause-complete c).0 refl)
+returns-clause-keeps c = finish_keeps _ _ _ _ c.self.view_is c.self.invariant ((returns-clause-complete c).0 refl) c.copy_from.ensures c.len-self-inside.ensures
 
 pub returns-clause-all : goal.returns-clause-all
 returns-clause-all c _ = complete_checked _ _ c.self.view_is c.self.invariant ((returns-clause-complete c).0 refl)
