@@ -86,6 +86,6 @@ ran_complete txg d (t ∷ ts) v w busy run complete =
     one (Some why) is = subst IsComplete (sym (rw is at run.1)) complete
 
 -- a scan that is complete is busy for the machine
-pub complete_busy : (v : ScanView) (saved : ℕ) → IsComplete v → is_busy (scan_of v saved) ≡ true
-complete_busy v saved complete =
+pub complete_busy : (v : ScanView) → IsComplete v → is_busy (scan_of v) ≡ true
+complete_busy v complete =
     ap (λ b. b && not (v.run.paused && is_scrub v.scope.kind)) (ap runs complete.scans) ∙ ap (λ b. not (b && is_scrub v.scope.kind)) complete.goes_on

@@ -28,22 +28,22 @@ none_made v number entries orderly idle =
     rw (orderly.idle (λ scans. true≢false (sym (ap runs scans) ∙ idle))) (none_fly number entries)
 
 -- the entries of a batch that was judged are added as the machine asks
-pub judged_step : (s : PoolState) (old new : ScanView) (saved number : ℕ) (entries made : List Entry) → s.scan ≡ scan_of old saved → IsOrderly old → Judged old number entries new → made ≡ still_flying old.marks number entries → MayAllBeChecked s.graph old.scope old.checked made → VerdictStep s made (record s { scan = scan_of new saved })
-judged_step s old new saved number entries made scan orderly judged is may = by (runs old.run.status) refl
+pub judged_step : (s : PoolState) (old new : ScanView) (number : ℕ) (entries made : List Entry) → s.scan ≡ scan_of old → IsOrderly old → Judged old number entries new → made ≡ still_flying old.marks number entries → MayAllBeChecked s.graph old.scope old.checked made → VerdictStep s made (record s { scan = scan_of new })
+judged_step s old new number entries made scan orderly judged is may = by (runs old.run.status) refl
   where
-    checked : scan_of new saved ≡ record (scan_of old saved) { checked = old.checked ++ made }
-    checked = ap (λ (v : ScanView). scan_of v saved) judged.rest ∙ ap (λ (l : List Entry). record (scan_of old saved) { checked = old.checked ++ l }) (sym is)
+    checked : scan_of new ≡ record (scan_of old) { checked = old.checked ++ made }
+    checked = ap (λ (v : ScanView). scan_of v) judged.rest ∙ ap (λ (l : List Entry). record (scan_of old) { checked = old.checked ++ l }) (sym is)
 
-    as_was : record s { scan = record s.scan { checked = s.scan.checked ++ made } } ≡ record s { scan = scan_of new saved }
+    as_was : record s { scan = record s.scan { checked = s.scan.checked ++ made } } ≡ record s { scan = scan_of new }
     as_was = ap (λ (c : ScanState). record s { scan = record c { checked = c.checked ++ made } }) scan ∙ ap (λ (c : ScanState). record s { scan = c }) (sym checked)
 
-    by : (b : Bool) → runs old.run.status ≡ b → VerdictStep s made (record s { scan = scan_of new saved })
+    by : (b : Bool) → runs old.run.status ≡ b → VerdictStep s made (record s { scan = scan_of new })
     by true running =
         subst (λ (t : PoolState). VerdictStep s made t) as_was
         (all_steps made s (ap is_running scan ∙ running)
         (subst (λ (c : ScanState). MayAllBeChecked s.graph c.scope c.checked made) (sym scan) may))
     by false idle =
         let none : made ≡ [] = is ∙ none_made old number entries orderly idle in
-        subst (λ (l : List Entry). VerdictStep s l (record s { scan = scan_of new saved })) (sym none)
-        (sym (subst (λ (l : List Entry). record s { scan = record s.scan { checked = s.scan.checked ++ l } } ≡ record s { scan = scan_of new saved }) none as_was)
+        subst (λ (l : List Entry). VerdictStep s l (record s { scan = scan_of new })) (sym none)
+        (sym (subst (λ (l : List Entry). record s { scan = record s.scan { checked = s.scan.checked ++ l } } ≡ record s { scan = scan_of new }) none as_was)
         ∙ ap (λ (l : List Entry). record s { scan = record s.scan { checked = l } }) (append-nil s.scan.checked))

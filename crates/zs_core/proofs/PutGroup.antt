@@ -31,5 +31,5 @@ ran_items t pointers old new before after items rest same ran =
     record { each = λ i h. has_moved (map (λ (c : Key × Bp). item_of c.1) pointers) items i same (ran.fewer i h) }
 
 -- the data on which the tasks run: the machine sees nothing of what was freed
-pub put_data : (o : Open) (old : GraphView) (before : ScanView) (new : GraphView) (after : ScanView) (saved : ℕ) → HasPut o old before new after → data_of new after saved ≡ record { graph = new.sets; next_id = old.next; scan = scan_of before saved }
-put_data o old before new after saved put = rw (put.next, ap (λ (v : ScanView). scan_of v saved) put.lost.freed.rest) refl
+pub put_data : (o : Open) (old : GraphView) (before : ScanView) (new : GraphView) (after : ScanView) → HasPut o old before new after → data_of new after ≡ record { graph = new.sets; next_id = old.next; scan = scan_of before }
+put_data o old before new after put = rw (put.next, ap (λ (v : ScanView). scan_of v) put.lost.freed.rest) refl

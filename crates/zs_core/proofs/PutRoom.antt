@@ -1,5 +1,5 @@
 -- A room for as many blocks as the datasets have, and a scan in one for more.
-use Rattle.std.specs.Prelude.{◌≡◌, ◌≤◌, ◌+◌, ℕ, List, [], ◌∷◌, ◌++◌, length}
+use Rattle.std.specs.Prelude.{◌≡◌, ◌≤◌, ◌+◌, ℕ, Bool, List, [], ◌∷◌, ◌++◌, length}
 use Rattle.std.proofs.Common.{sym, ap, subst, inl, inr, arith}
 use Rattle.zs_ids.specs.declared.key.Key.{Key}
 use Rattle.zs_ids.specs.declared.block.Bp.{Bp}
@@ -9,7 +9,10 @@ use Rattle.zs_ids.specs.declared.block.Place.{Place}
 use Rattle.zs_ids.specs.Graph.{Dataset, Graph, Has, pieces_of}
 use Rattle.zs_ids.specs.GraphValid.{HasAtMost, IsWithin, LiesIn}
 use Rattle.zs_graph.proofs.Lists.{has-left, has-right}
-use Rattle.zs_scan.specs.View.{ScanView}
+use Rattle.zs_phys.specs.declared.scope.Scope.{Scope}
+use Rattle.zs_phys.specs.declared.phys.Phys.{Phys}
+use Rattle.zs_cover.specs.Laws.{IsCovered}
+use Rattle.zs_scan.specs.View.{ScanView, is_done, is_stored}
 use Rattle.zs_scan.specs.Covered.{IsInRoom, IsScanOf}
 use Rattle.zs_core.specs.Placed.{room_of, LiesBetween}
 use Rattle.zs_core.specs.Datasets.{AreDatasets}
@@ -65,25 +68,29 @@ lies_more start end blocks more place sectors l = record { mirror = l.mirror; fr
 in_more : (start end blocks more : ℕ) (item : Item) → IsInRoom (room_of start end blocks) item → IsInRoom (room_of start end more) item
 in_more start end blocks more item h = record { lies = lies_more start end blocks more item.piece.place item.sectors h.lies; some = h.some; most = h.most }
 
--- a scan of datasets in a room is one in a room for more blocks
-pub scan_with : (start end blocks more n h : ℕ) (g : Graph) (v : ScanView) → blocks ≤ more → IsScanOf (room_of start end blocks) g n h v → IsScanOf (room_of start end more) g n h v
-scan_with start end blocks more n h g v le scan =
-    let c = scan.covered in
+-- what covers datasets in a room covers them in a room for more blocks
+covered_with : (start end blocks more n h : ℕ) (g : Graph) (scope : Scope) (s : Phys) (done : Piece → Bool) → blocks ≤ more → IsCovered (room_of start end blocks) g n h scope s done → IsCovered (room_of start end more) g n h scope s done
+covered_with start end blocks more n h g scope s done le c =
     let most = c.valid.within.few in
     let few : length most.all ≤ blocks = most.few in
     record {
-      covered = record {
-        early = c.early;
-        valid = record {
-          graph = c.valid.graph;
-          within = record {
-            places = λ d k e i p is. lies_more start end blocks more p.place e.1.sectors (c.valid.within.places d k e i p is);
-            few = record { all = most.all; few = omega (arith, few, le); each = most.each };
-          };
+      early = c.early;
+      valid = record {
+        graph = c.valid.graph;
+        within = record {
+          places = λ d k e i p is. lies_more start end blocks more p.place e.1.sectors (c.valid.within.places d k e i p is);
+          few = record { all = most.all; few = omega (arith, few, le); each = most.each };
         };
-        sound = c.sound;
-        covers = c.covers;
       };
-      live = scan.live;
-      in_room = λ b i k l. in_more start end blocks more i (scan.in_room b i k l);
+      sound = c.sound;
+      covers = c.covers;
     }
+
+-- a scan of datasets in a room is one in a room for more blocks
+pub scan_with : (start end blocks more n h : ℕ) (g : Graph) (v : ScanView) → blocks ≤ more → IsScanOf (room_of start end blocks) g n h v → IsScanOf (room_of start end more) g n h v
+scan_with start end blocks more n h g v le scan = record {
+  covered = covered_with start end blocks more n h g v.scope v.run (is_done v) le scan.covered;
+  stored = covered_with start end blocks more n h g v.scope v.kept (is_stored v) le scan.stored;
+  live = scan.live;
+  in_room = λ b i k l. in_more start end blocks more i (scan.in_room b i k l);
+}

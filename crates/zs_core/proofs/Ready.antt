@@ -1,5 +1,5 @@
 -- A pool whose transaction group was closed is ready to have it applied.
-use Rattle.std.proofs.Common.{◌≡◌, ◌≤◌, ◌+◌, ◌∙◌, ℕ, List, Option, refl, sym, ap, subst, arith, inl, inr}
+use Rattle.std.proofs.Common.{◌≡◌, ◌≤◌, ◌+◌, ◌∙◌, ℕ, Bool, List, Option, refl, sym, ap, subst, arith, inl, inr}
 use Rattle.std.specs.Prelude.{Some, None}
 use Rattle.std.proofs.lemmas.Bool.{true≢false}
 use Rattle.zs_ids.specs.declared.key.Key.{Key}
@@ -13,7 +13,11 @@ use Rattle.zs_graph.proofs.Origin.{is_origin, nothing_held}
 use Rattle.zs_graph.proofs.SnapshotMade.{valid_later}
 use Rattle.zs_txg.specs.declared.staged.Staging.{Staging}
 use Rattle.zs_txg.specs.Txg.{Slot}
-use Rattle.zs_scan.specs.View.{ScanView}
+use Rattle.zs_ids.specs.declared.block.Piece.{Piece}
+use Rattle.zs_phys.specs.declared.scope.Scope.{Scope}
+use Rattle.zs_phys.specs.declared.phys.Phys.{Phys}
+use Rattle.zs_cover.specs.Laws.{IsCovered}
+use Rattle.zs_scan.specs.View.{ScanView, is_done, is_stored}
 use Rattle.zs_scan.specs.Covered.{IsScanOf}
 use Rattle.zs_machine.specs.Shapes.{data_start}
 use Rattle.zs_core.specs.declared.parts.Closed.{Closed}
@@ -45,20 +49,18 @@ datasets_later g n t start next staged le a = record {
 }
 
 -- and the scan is the datasets' own
-pub scan_grown : (room : Room) (g : Graph) (n h : ℕ) (v : ScanView) → IsScanOf room g n h v → IsScanOf room g h h v
-scan_grown room g n h v scan =
-    let c = scan.covered in
+covered_grown : (room : Room) (g : Graph) (n h : ℕ) (scope : Scope) (s : Phys) (done : Piece → Bool) → IsCovered room g n h scope s done → IsCovered room g h h scope s done
+covered_grown room g n h scope s done c =
     let early : n ≤ h = c.early in
-    record {
-      covered = record {
-        early = omega arith;
-        valid = record { graph = valid_later g n h early (c.valid).graph; within = (c.valid).within };
-        sound = c.sound;
-        covers = c.covers;
-      };
-      live = scan.live;
-      in_room = scan.in_room;
-    }
+    record { early = omega arith; valid = record { graph = valid_later g n h early (c.valid).graph; within = (c.valid).within }; sound = c.sound; covers = c.covers }
+
+pub scan_grown : (room : Room) (g : Graph) (n h : ℕ) (v : ScanView) → IsScanOf room g n h v → IsScanOf room g h h v
+scan_grown room g n h v scan = record {
+  covered = covered_grown room g n h v.scope v.run (is_done v) scan.covered;
+  stored = covered_grown room g n h v.scope v.kept (is_stored v) scan.stored;
+  live = scan.live;
+  in_room = scan.in_room;
+}
 
 -- no parent was created after the last group
 start_by : (g : Graph) (n : ℕ) (parent : Option DsId) → ((d : Dataset) → Has g d → d.creation ≤ n) → start_of g parent ≤ n

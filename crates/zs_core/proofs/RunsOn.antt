@@ -20,8 +20,8 @@ use Rattle.zs_core.proofs.Carried.{carried}
 pub rest_both : (u v w : ScanView) → KeepsRest u v → KeepsRest v w → KeepsRest u w
 rest_both u v w first second = record { limit = second.limit ∙ first.limit; width = second.width ∙ first.width; flight = second.flight ∙ first.flight }
 
--- where the walk's state alone changed
-pub rest_at_run : (v w : ScanView) → w ≡ record v { run = w.run } → KeepsRest v w
+-- where the walk's state and the one that is kept alone changed
+pub rest_at_run : (v w : ScanView) → w ≡ record v { run = w.run; kept = w.kept } → KeepsRest v w
 rest_at_run v w is = record { limit = ap (λ (x : ScanView). x.limit) is; width = ap (λ (x : ScanView). x.scope.width) is; flight = ap (λ (x : ScanView). x.flight) is }
 
 -- where pieces were freed
@@ -66,10 +66,10 @@ born_kept old new t items holds kept b = record {
   all = λ p live birth. b.all p (live_before old new holds p live) birth;
 }
 
--- what a task leaves that frees nothing, and changes of the scan the walk's state alone
+-- what a task leaves that frees nothing, and changes of the scan its two states alone
 pub runs_kept : (t : ℕ) (old new : Graph) (v w : ScanView) (items : List Item) → Holds old new → AreBlocksKept old new
     → ((d : Dataset) → Has new d → IsUpTo old t → d.creation ≤ t)
-    → ((room : Room) → IsScanOf room old t t v → IsScanOf room new t t w) → w ≡ record v { run = w.run } → RunsOn t old v items new w items
+    → ((room : Room) → IsScanOf room old t t v → IsScanOf room new t t w) → w ≡ record v { run = w.run; kept = w.kept } → RunsOn t old v items new w items
 runs_kept t old new v w items holds kept created scanned rest = record {
   kept = λ start next a. carried old new t start next holds a;
   up_to = up_to_held old new t holds created;

@@ -24,7 +24,7 @@ use Rattle.zs_scan.specs.View.{ScanView, has_item, is_same, pieces_in}
 use Rattle.zs_scan.proofs.Pieces.{same_is, same_itself}
 use Rattle.zs_scan.specs.Changes.{CloneLaw, KeepsAtDestroy, KeepsAtSnapshot, KeepsAtSwap, KeepsFreed}
 use Rattle.zs_scan.specs.Covered.{IsScanOf}
-use Rattle.zs_scan.specs.Steps.{after_start, scrub_started}
+use Rattle.zs_scan.specs.Steps.{after_start, scrub_started, with_paused}
 use Rattle.zs_machine.specs.Born.{AreBornItems}
 use Rattle.zs_core.specs.Running.{KeepsRest, RunsOn}
 use Rattle.zs_core.proofs.Carried.{carried}
@@ -52,7 +52,7 @@ moved_creation b parent d = sym (sym (same_or_moved b parent d).creation)
 
 -- a snapshot is taken
 pub snapshot_kept : (t : ℕ) (old new : Graph) (v w : ScanView) (items : List Item) (head : DsId) (of : Dataset) (id : DsId) (label : Name) → of.id ≡ head → MaySnapshot old of id label t
-    → AreBlocksKept old new → new ≡ with_snapshot old of id label t → KeepsAtSnapshot head id v w → w ≡ record v { run = w.run } → RunsOn t old v items new w items
+    → AreBlocksKept old new → new ≡ with_snapshot old of id label t → KeepsAtSnapshot head id v w → w ≡ record v { run = w.run; kept = w.kept } → RunsOn t old v items new w items
 snapshot_kept t old new v w items head of id label named may kept is keeps rest =
     subst (λ (g : Graph). RunsOn t old v items g w items) (sym is)
     (runs_kept t old (with_snapshot old of id label t) v w items (snapshot_holds old of id label t may.here) same created (λ room scan. keeps room old t t of label named may same scan) rest)
@@ -72,7 +72,7 @@ held_creation false d e same x is = ap (λ (y : Dataset). y.creation) is
 
 -- two heads are swapped
 pub swap_kept : (t : ℕ) (old new : Graph) (v w : ScanView) (items : List Item) (a b : DsId) (x y : Dataset) → x.id ≡ a → y.id ≡ b → MaySwap old x y → AreBlocksKept old new → new ≡ swapped old x y
-    → KeepsAtSwap a b v w → w ≡ record v { run = w.run } → RunsOn t old v items new w items
+    → KeepsAtSwap a b v w → w ≡ record v { run = w.run; kept = w.kept } → RunsOn t old v items new w items
 swap_kept t old new v w items a b x y is_a is_b may kept is keeps rest =
     subst (λ (g : Graph). RunsOn t old v items g w items) (sym is)
     (runs_kept t old (swapped old x y) v w items (swapped_holds old x y may.first may.second) same created (λ room scan. keeps room old t t x y is_a is_b may same scan) rest)
@@ -138,7 +138,7 @@ born_left t old new items freed holds are b = record {
 
 -- a dataset is destroyed
 pub destroy_kept : (t : ℕ) (old new : Graph) (v moved w : ScanView) (items left : List Item) (gone : Dataset) (id : DsId) (next : Option DsId) (freed : List Item) → gone.id ≡ id
-    → MayDestroy old gone next → AreFreed old new freed → new ≡ destroyed old gone → KeepsAtDestroy id next v moved → moved ≡ record v { run = moved.run } → KeepsFreed freed moved w
+    → MayDestroy old gone next → AreFreed old new freed → new ≡ destroyed old gone → KeepsAtDestroy id next v moved → moved ≡ record v { run = moved.run; kept = moved.kept } → KeepsFreed freed moved w
     → KeepsRest moved w → left ≡ filter (λ i. not (has_item freed i.piece)) items → RunsOn t old v items new w left
 destroy_kept t old new v moved w items left gone id next freed named may are is at_destroy rest at_freed others left_is =
     subst (λ (g : Graph). RunsOn t old v items g w left) (sym is) (record {
@@ -165,7 +165,7 @@ destroy_kept t old new v moved w items left gone id next freed named may are is 
 start_rest : (t : ℕ) (v w : ScanView) (b : Bool) → runs v.run.status ≡ b → w ≡ record (after_start t 0 v) { room = w.room } → KeepsRest v w
 start_rest t v w true is started = started_rest v w (rw is at started)
   where
-    started_rest : (v w : ScanView) → w ≡ record v { run = record v.run { paused = false }; room = w.room } → KeepsRest v w
+    started_rest : (v w : ScanView) → w ≡ record (with_paused false v) { room = w.room } → KeepsRest v w
     started_rest v w same = record { limit = ap (λ (x : ScanView). x.limit) same; width = ap (λ (x : ScanView). x.scope.width) same; flight = ap (λ (x : ScanView). x.flight) same }
 start_rest t v w false is started = started_rest v w (rw is at started)
   where

@@ -33,14 +33,14 @@ pub answers_ok : {A : Type 0} (r : Option GraphFault) (x : A) → Answers r (Ok 
 answers_ok None x a = refl
 answers_ok (Some why) x a = absurd cc
 
-module _ (txg : ℕ) (t : Task) (old : GraphView) (v : ScanView) (saved : ℕ) where
+module _ (txg : ℕ) (t : Task) (old : GraphView) (v : ScanView) where
   abbrev before : Data
-  before = data_of old v saved
+  before = data_of old v
 
   -- a task that is not refused is done
-  pub ran_done : (new : GraphView) (w : ScanView) (saved_now : ℕ) → task_refusal txg before t ≡ None → data_of new w saved_now ≡ after_task txg before t → HasSeen txg before t v w
-      → RanTask txg t old v saved None new w saved_now
-  ran_done new w saved_now none is seen = record {
+  pub ran_done : (new : GraphView) (w : ScanView) → task_refusal txg before t ≡ None → data_of new w ≡ after_task txg before t → HasSeen txg before t v w
+      → RanTask txg t old v None new w
+  ran_done new w none is seen = record {
     answer = sym none;
     after = is ∙ sym (ap (λ (r : Option Refusal). if is_some r then before else after_task txg before t) none);
     seen = rw none seen;
@@ -54,10 +54,10 @@ numbered_is : (id : DsId) (n : ℕ) → id.0 ≡ n → id ≡ numbered n
 numbered_is id n is = ap numbered is
 
 -- the data with one dataset more
-one_more : (old new : GraphView) (v : ScanView) (saved : ℕ) (g : DsId → Graph) (id : DsId) → new.sets ≡ g id → id.0 ≡ old.next → new.next ≡ old.next + 1
-    → data_of new v saved ≡ with_one_more (data_of old v saved) (g (numbered old.next))
-one_more old new v saved g id is number next =
-    ap (λ (x : GraphView). data_of x v saved) (same ∙ ap (λ (n : ℕ). let w : GraphView = record { sets = g (numbered old.next); next = n } in w) next)
+one_more : (old new : GraphView) (v : ScanView) (g : DsId → Graph) (id : DsId) → new.sets ≡ g id → id.0 ≡ old.next → new.next ≡ old.next + 1
+    → data_of new v ≡ with_one_more (data_of old v) (g (numbered old.next))
+one_more old new v g id is number next =
+    ap (λ (x : GraphView). data_of x v) (same ∙ ap (λ (n : ℕ). let w : GraphView = record { sets = g (numbered old.next); next = n } in w) next)
   where
     same : new ≡ record { sets = g (numbered old.next); next = new.next }
     same = ap (λ (l : Graph). let w : GraphView = record { sets = l; next = new.next } in w) (is ∙ ap g (numbered_is id old.next number))
@@ -97,58 +97,58 @@ status_of (events.destroyed id None) s = left_out_status id s (is_on s.at id)
 status_of (events.swapped a b) s = (refl, refl)
 status_of (events.went_away dev) s = (refl, refl)
 
-pub handled_scan : (v w : ScanView) (e : Event) (saved : ℕ) → HasHandled v e w → scan_of w saved ≡ scan_of v saved
-handled_scan v w e saved h =
+pub handled_scan : (v w : ScanView) (e : Event) → HasHandled v e w → scan_of w ≡ scan_of v
+handled_scan v w e h =
     let both = status_of e v.run in
-    ap (λ (x : ScanView). scan_of x saved) h.rest
-    ∙ ap (λ (s : Status). record (scan_of v saved) { status = s; paused = w.run.paused }) (ap (λ (p : Phys). p.status) h.run ∙ both.0)
-    ∙ ap (λ (b : Bool). record (scan_of v saved) { paused = b }) (ap (λ (p : Phys). p.paused) h.run ∙ both.1)
+    ap (λ (x : ScanView). scan_of x) h.rest
+    ∙ ap (λ (s : Status). record (scan_of v) { status = s; paused = w.run.paused }) (ap (λ (p : Phys). p.status) h.run ∙ both.0)
+    ∙ ap (λ (b : Bool). record (scan_of v) { paused = b }) (ap (λ (p : Phys). p.paused) h.run ∙ both.1)
 
 -- data with a scan of which the machine knows the same
-same_scan : (g : GraphView) (v w : ScanView) (saved : ℕ) → scan_of w saved ≡ scan_of v saved → data_of g w saved ≡ data_of g v saved
-same_scan g v w saved is = ap (λ (x : ScanState). let d : Data = record { graph = g.sets; next_id = g.next; scan = x } in d) is
+same_scan : (g : GraphView) (v w : ScanView) → scan_of w ≡ scan_of v → data_of g w ≡ data_of g v
+same_scan g v w is = ap (λ (x : ScanState). let d : Data = record { graph = g.sets; next_id = g.next; scan = x } in d) is
 
 -- a snapshot is taken
-module _ (txg : ℕ) (head label : Name) (old : GraphView) (v : ScanView) (saved : ℕ) (h : Dataset) (id : DsId) (named : head_named old.sets head ≡ Some h) (is : h.id ≡ id) (at : dataset_at old.sets id ≡ Some h) where
-  abbrev snap_is : (r : Option GraphFault) → snapshot_refusal old id label txg ≡ r → task_refusal txg (data_of old v saved) (task.Snap head label) ≡ told_as r
+module _ (txg : ℕ) (head label : Name) (old : GraphView) (v : ScanView) (h : Dataset) (id : DsId) (named : head_named old.sets head ≡ Some h) (is : h.id ≡ id) (at : dataset_at old.sets id ≡ Some h) where
+  abbrev snap_is : (r : Option GraphFault) → snapshot_refusal old id label txg ≡ r → task_refusal txg (data_of old v) (task.Snap head label) ≡ told_as r
   snap_is r same = refusal_there (head_named old.sets head) h (λ x. snapshot_refusal old x.id label txg) r named (ap (λ (i : DsId). snapshot_refusal old i label txg) is ∙ same)
 
   pub snap_ran : (new : GraphView) (w : ScanView) (snap : DsId) → snapshot_refusal old id label txg ≡ None → IsSnapshotTaken old id label txg snap new → HasHandled v (events.snapshot_taken id snap) w
-      → RanTask txg (task.Snap head label) old v saved None new w saved
+      → RanTask txg (task.Snap head label) old v None new w
   snap_ran new w snap none made handled =
-      ran_done txg (task.Snap head label) old v saved new w saved (snap_is None none)
-      (scan_is ∙ one_more old new v saved (λ i. with_snapshot old.sets h i label txg) snap (made.now ∙ ap (λ (x : Dataset). with_snapshot old.sets x snap label txg) of_is) made.added.number made.added.next ∙ sym (ap (λ (o : Option Dataset). data_with (data_of old v saved) o (λ x. with_one_more (data_of old v saved) (with_snapshot old.sets x (numbered old.next) label txg))) named))
+      ran_done txg (task.Snap head label) old v new w (snap_is None none)
+      (scan_is ∙ one_more old new v (λ i. with_snapshot old.sets h i label txg) snap (made.now ∙ ap (λ (x : Dataset). with_snapshot old.sets x snap label txg) of_is) made.added.number made.added.next ∙ sym (ap (λ (o : Option Dataset). data_with (data_of old v) o (λ x. with_one_more (data_of old v) (with_snapshot old.sets x (numbered old.next) label txg))) named))
       (λ x here. subst (λ (i : DsId). HasHandled v (events.snapshot_taken i (numbered old.next)) w) (sym (ap (λ (y : Dataset). y.id) (some_is x h (sym here ∙ named)) ∙ is)) (subst (λ (i : DsId). HasHandled v (events.snapshot_taken id i) w) (numbered_is snap old.next made.added.number) handled))
     where
       of_is : made.of ≡ h
       of_is = some_is made.of h (sym made.here ∙ at)
 
-      scan_is : data_of new w saved ≡ data_of new v saved
-      scan_is = same_scan new v w saved (handled_scan v w (events.snapshot_taken id snap) saved handled)
+      scan_is : data_of new w ≡ data_of new v
+      scan_is = same_scan new v w (handled_scan v w (events.snapshot_taken id snap) handled)
 
 -- a clone is made
-module _ (txg : ℕ) (ds : DsName) (name : Name) (old : GraphView) (v : ScanView) (saved : ℕ) (on : Dataset) (id : DsId) (named : dataset_named old.sets ds ≡ Some on) (is : on.id ≡ id) (at : dataset_at old.sets id ≡ Some on) where
-  abbrev clone_is : (r : Option GraphFault) → clone_refusal old id name ≡ r → task_refusal txg (data_of old v saved) (task.Clone ds name) ≡ told_as r
+module _ (txg : ℕ) (ds : DsName) (name : Name) (old : GraphView) (v : ScanView) (on : Dataset) (id : DsId) (named : dataset_named old.sets ds ≡ Some on) (is : on.id ≡ id) (at : dataset_at old.sets id ≡ Some on) where
+  abbrev clone_is : (r : Option GraphFault) → clone_refusal old id name ≡ r → task_refusal txg (data_of old v) (task.Clone ds name) ≡ told_as r
   clone_is r same = refusal_there (dataset_named old.sets ds) on (λ x. clone_refusal old x.id name) r named (ap (λ (i : DsId). clone_refusal old i name) is ∙ same)
 
-  pub clone_ran : (new : GraphView) (made_id : DsId) → clone_refusal old id name ≡ None → IsCloned old id name made_id new → RanTask txg (task.Clone ds name) old v saved None new v saved
+  pub clone_ran : (new : GraphView) (made_id : DsId) → clone_refusal old id name ≡ None → IsCloned old id name made_id new → RanTask txg (task.Clone ds name) old v None new v
   clone_ran new made_id none made =
-      ran_done txg (task.Clone ds name) old v saved new v saved (clone_is None none)
-      (one_more old new v saved (λ i. cloned old.sets on i name) made_id (made.now ∙ ap (λ (x : Dataset). cloned old.sets x made_id name) (some_is made.on on (sym made.here ∙ at))) made.added.number made.added.next ∙ sym (ap (λ (o : Option Dataset). data_with (data_of old v saved) o (λ x. with_one_more (data_of old v saved) (cloned old.sets x (numbered old.next) name))) named))
+      ran_done txg (task.Clone ds name) old v new v (clone_is None none)
+      (one_more old new v (λ i. cloned old.sets on i name) made_id (made.now ∙ ap (λ (x : Dataset). cloned old.sets x made_id name) (some_is made.on on (sym made.here ∙ at))) made.added.number made.added.next ∙ sym (ap (λ (o : Option Dataset). data_with (data_of old v) o (λ x. with_one_more (data_of old v) (cloned old.sets x (numbered old.next) name))) named))
       refl
 
 -- a dataset is destroyed
-module _ (txg : ℕ) (ds : DsName) (old : GraphView) (v : ScanView) (saved : ℕ) (gone : Dataset) (id : DsId) (named : dataset_named old.sets ds ≡ Some gone) (is : gone.id ≡ id) (at : dataset_at old.sets id ≡ Some gone) where
-  abbrev destroy_is : (r : Option GraphFault) → destroy_refusal old id ≡ r → task_refusal txg (data_of old v saved) (task.Destroy ds) ≡ told_as r
+module _ (txg : ℕ) (ds : DsName) (old : GraphView) (v : ScanView) (gone : Dataset) (id : DsId) (named : dataset_named old.sets ds ≡ Some gone) (is : gone.id ≡ id) (at : dataset_at old.sets id ≡ Some gone) where
+  abbrev destroy_is : (r : Option GraphFault) → destroy_refusal old id ≡ r → task_refusal txg (data_of old v) (task.Destroy ds) ≡ told_as r
   destroy_is r same = refusal_there (dataset_named old.sets ds) gone (λ x. destroy_refusal old x.id) r named (ap (λ (i : DsId). destroy_refusal old i) is ∙ same)
 
   pub destroy_ran : (new : GraphView) (moved w : ScanView) (freed : Freed) → destroy_refusal old id ≡ None → IsDestroyed old id freed new → HasHandled v (events.destroyed id freed.next) moved
-      → HasLost old.sets new.sets moved w → scan_of w saved ≡ scan_of moved saved → RanTask txg (task.Destroy ds) old v saved None new w saved
+      → HasLost old.sets new.sets moved w → scan_of w ≡ scan_of moved → RanTask txg (task.Destroy ds) old v None new w
   destroy_ran new moved w freed none made handled lost same =
-      ran_done txg (task.Destroy ds) old v saved new w saved (destroy_is None none)
-      (same_scan new v w saved (same ∙ handled_scan v moved (events.destroyed id freed.next) saved handled)
-      ∙ ap (λ (x : GraphView). data_of x v saved) (made.now ∙ ap (λ (x : Dataset). let y : GraphView = record old { sets = destroyed old.sets x } in y) gone_is)
-      ∙ sym (ap (λ (o : Option Dataset). data_with (data_of old v saved) o (λ x. record (data_of old v saved) { graph = destroyed old.sets x })) named))
+      ran_done txg (task.Destroy ds) old v new w (destroy_is None none)
+      (same_scan new v w (same ∙ handled_scan v moved (events.destroyed id freed.next) handled)
+      ∙ ap (λ (x : GraphView). data_of x v) (made.now ∙ ap (λ (x : Dataset). let y : GraphView = record old { sets = destroyed old.sets x } in y) gone_is)
+      ∙ sym (ap (λ (o : Option Dataset). data_with (data_of old v) o (λ x. record (data_of old v) { graph = destroyed old.sets x })) named))
       (λ x here. subst (λ (y : Dataset). HasSeenDestroyed old.sets y v w) (some_is gone x (sym named ∙ here)) (record {
         next = freed.next;
         only = subst (λ (y : Dataset). MayDestroy old.sets y freed.next) gone_is made.may;
@@ -161,17 +161,17 @@ module _ (txg : ℕ) (ds : DsName) (old : GraphView) (v : ScanView) (saved : ℕ
       gone_is = some_is made.gone gone (sym made.here ∙ at)
 
 -- two heads are swapped
-module _ (txg : ℕ) (first second : Name) (old : GraphView) (v : ScanView) (saved : ℕ) (x y : Dataset) (a b : DsId) (named : head_named old.sets first ≡ Some x) (other_named : head_named old.sets second ≡ Some y) (is : x.id ≡ a) (other_is : y.id ≡ b) (at : dataset_at old.sets a ≡ Some x) (other_at : dataset_at old.sets b ≡ Some y) where
-  abbrev swap_is : (r : Option GraphFault) → swap_refusal old a b ≡ r → task_refusal txg (data_of old v saved) (task.Swap first second) ≡ told_as r
+module _ (txg : ℕ) (first second : Name) (old : GraphView) (v : ScanView) (x y : Dataset) (a b : DsId) (named : head_named old.sets first ≡ Some x) (other_named : head_named old.sets second ≡ Some y) (is : x.id ≡ a) (other_is : y.id ≡ b) (at : dataset_at old.sets a ≡ Some x) (other_at : dataset_at old.sets b ≡ Some y) where
+  abbrev swap_is : (r : Option GraphFault) → swap_refusal old a b ≡ r → task_refusal txg (data_of old v) (task.Swap first second) ≡ told_as r
   swap_is r same =
       ap (λ (o : Option Dataset). refusal_on_both o (head_named old.sets second) (λ p q. swap_refusal old p.id q.id)) named
       ∙ ap (λ (o : Option Dataset). refusal_on_both (Some x) o (λ p q. swap_refusal old p.id q.id)) other_named
       ∙ ap told_as (ap (λ (i : DsId). swap_refusal old i y.id) is ∙ ap (λ (i : DsId). swap_refusal old a i) other_is ∙ same)
 
-  pub swap_ran : (new : GraphView) (w : ScanView) → swap_refusal old a b ≡ None → IsSwapped old a b new → HasHandled v (events.swapped a b) w → RanTask txg (task.Swap first second) old v saved None new w saved
+  pub swap_ran : (new : GraphView) (w : ScanView) → swap_refusal old a b ≡ None → IsSwapped old a b new → HasHandled v (events.swapped a b) w → RanTask txg (task.Swap first second) old v None new w
   swap_ran new w none made handled =
-      ran_done txg (task.Swap first second) old v saved new w saved (swap_is None none)
-      (same_scan new v w saved (handled_scan v w (events.swapped a b) saved handled)
-      ∙ ap (λ (z : GraphView). data_of z v saved) (made.now ∙ ap (λ (p : Dataset). let z : GraphView = record old { sets = swapped old.sets p made.second } in z) (some_is made.first x (sym made.first_here ∙ at)) ∙ ap (λ (q : Dataset). let z : GraphView = record old { sets = swapped old.sets x q } in z) (some_is made.second y (sym made.second_here ∙ other_at)))
-      ∙ sym (ap (λ (o : Option Dataset). data_with (data_of old v saved) o (λ p. data_with (data_of old v saved) (head_named old.sets second) (λ q. record (data_of old v saved) { graph = swapped old.sets p q }))) named ∙ ap (λ (o : Option Dataset). data_with (data_of old v saved) o (λ q. record (data_of old v saved) { graph = swapped old.sets x q })) other_named))
+      ran_done txg (task.Swap first second) old v new w (swap_is None none)
+      (same_scan new v w (handled_scan v w (events.swapped a b) handled)
+      ∙ ap (λ (z : GraphView). data_of z v) (made.now ∙ ap (λ (p : Dataset). let z : GraphView = record old { sets = swapped old.sets p made.second } in z) (some_is made.first x (sym made.first_here ∙ at)) ∙ ap (λ (q : Dataset). let z : GraphView = record old { sets = swapped old.sets x q } in z) (some_is made.second y (sym made.second_here ∙ other_at)))
+      ∙ sym (ap (λ (o : Option Dataset). data_with (data_of old v) o (λ p. data_with (data_of old v) (head_named old.sets second) (λ q. record (data_of old v) { graph = swapped old.sets p q }))) named ∙ ap (λ (o : Option Dataset). data_with (data_of old v) o (λ q. record (data_of old v) { graph = swapped old.sets x q })) other_named))
       (λ p q one two. subst (λ (i : DsId). HasHandled v (events.swapped i q.id) w) (sym (ap (λ (d : Dataset). d.id) (some_is p x (sym one ∙ named)) ∙ is)) (subst (λ (i : DsId). HasHandled v (events.swapped a i) w) (sym (ap (λ (d : Dataset). d.id) (some_is q y (sym two ∙ other_named)) ∙ other_is)) handled))

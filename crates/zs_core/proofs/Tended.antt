@@ -43,11 +43,11 @@ datasets_after g t start next staged since none a =
 
 -- all that is kept stays, with datasets that were tended and a scan that is theirs
 pub facts_after : (p : Inside) (f : Facts p) (c : Closed) → p.closed ≡ Some c → p.suspended ≡ false → p.stage ≡ Writing
-    → (space : Space) → space ≡ space_of p → (g : GraphView) (u v : ScanView) (t saved : ℕ) (stage : Stage) (suspended finished : Bool) (answers : Vec (Option Refusal) Global) → t ≡ c.txg.txg → IsTended space c.txg.txg g.sets u
+    → (space : Space) → space ≡ space_of p → (g : GraphView) (u v : ScanView) (t : ℕ) (stage : Stage) (suspended finished : Bool) (answers : Vec (Option Refusal) Global) → t ≡ c.txg.txg → IsTended space c.txg.txg g.sets u
     → ((room : Room) (sets : Graph) (n h : ℕ) → IsScanOf room sets n h u → IsScanOf room sets n h v) → v.limit ≡ p.scan.limit → v.scope.width ≡ p.scan.scope.width
     → (suspended ≡ false → stage ≡ Labelling)
-    → Facts (record p { graph = g; scan = v; applied = t; closed = None; saved = saved; stage = stage; suspended = suspended; finished = finished; answers = answers })
-facts_after p f c is up writing space same g u v t saved stage suspended finished answers number there keeps limit width labelling =
+    → Facts (record p { graph = g; scan = v; applied = t; closed = None; stage = stage; suspended = suspended; finished = finished; answers = answers })
+facts_after p f c is up writing space same g u v t stage suspended finished answers number there keeps limit width labelling =
     let over = closed_over p f c is up writing in
     let next : c.txg.txg ≡ p.applied + 1 = over.number in
     let after : p.open.txg ≡ p.applied + 2 = over.next in

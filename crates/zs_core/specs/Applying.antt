@@ -83,13 +83,13 @@ pub record BringForth (changes : List Changes) (t : ℕ) (g : Graph) : Type 0 wh
 
 -- the transaction group was applied: its blocks were put, and its tasks ran, which were refused as the answers say; the items are
 -- those of its blocks that live
-pub record HasApplied (c : Closed) (old : GraphView) (before : ScanView) (old_saved : ℕ) (answers : List (Option Refusal))
-    (items : List Item) (new : GraphView) (after : ScanView) (saved : ℕ) : Type 0 where
+pub record HasApplied (c : Closed) (old : GraphView) (before : ScanView) (answers : List (Option Refusal))
+    (items : List Item) (new : GraphView) (after : ScanView) : Type 0 where
   pub mid : GraphView
   pub freed : ScanView
   pub put : HasPut c.txg old before mid freed
-  pub answered : answers ≡ task_answers c.txg.txg (data_of mid freed old_saved) c.txg.tasks
-  pub ran : data_of new after saved ≡ after_tasks c.txg.txg (data_of mid freed old_saved) c.txg.tasks
-  pub seen : HaveRun c.txg.txg (data_of mid freed old_saved) c.txg.tasks freed after
+  pub answered : answers ≡ task_answers c.txg.txg (data_of mid freed) c.txg.tasks
+  pub ran : data_of new after ≡ after_tasks c.txg.txg (data_of mid freed) c.txg.tasks
+  pub seen : HaveRun c.txg.txg (data_of mid freed) c.txg.tasks freed after
   pub born : AreBornItems new.sets c.txg.txg items
   pub are_items : AreItemsOf (pointers_of_all c.changes.items) items

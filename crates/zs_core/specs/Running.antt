@@ -22,10 +22,12 @@ use Rattle.zs_core.specs.View.{data_of}
 use Rattle.zs_core.specs.Datasets.{AreDatasets}
 use Rattle.zs_core.specs.Freeing.{HasLost}
 
--- the walk's state took an event of the datasets, and all else of the scan is as it was
+-- the walk's state took an event of the datasets, and so did the one that is kept for a crash; all else of the scan is as it
+-- was
 pub record HasHandled (old : ScanView) (e : Event) (new : ScanView) : Type 0 where
   pub run : Handled old.run e new.run
-  pub rest : new ≡ record old { run = new.run }
+  pub kept : Handled old.kept e new.kept
+  pub rest : new ≡ record old { run = new.run; kept = new.kept }
 
 -- a dataset was destroyed: bookmark and queue of the walk left it for its child, where it has one, and what is not live any
 -- more was freed
@@ -62,10 +64,10 @@ HaveRun txg d (t ∷ ts) old new = (mid : ScanView) × HasRun txg d t.1 old mid 
 
 -- a task ran, and this is why it was refused, if it was: what it made of the datasets and the scan
 pub record RanTask (txg : ℕ) (t : Task)
-    (old_graph : GraphView) (old : ScanView) (old_saved : ℕ) (why : Option Refusal) (graph : GraphView) (new : ScanView) (saved : ℕ) : Type 0 where
-  pub answer : why ≡ task_refusal txg (data_of old_graph old old_saved) t
-  pub after : data_of graph new saved ≡ after_run txg (data_of old_graph old old_saved) t
-  pub seen : HasRun txg (data_of old_graph old old_saved) t old new
+    (old_graph : GraphView) (old : ScanView) (why : Option Refusal) (graph : GraphView) (new : ScanView) : Type 0 where
+  pub answer : why ≡ task_refusal txg (data_of old_graph old) t
+  pub after : data_of graph new ≡ after_run txg (data_of old_graph old) t
+  pub seen : HasRun txg (data_of old_graph old) t old new
 
 -- no part of a sync changes how many pieces of a scan may wait, how many copies a block has, or what is in flight
 pub record KeepsRest (old new : ScanView) : Type 0 where

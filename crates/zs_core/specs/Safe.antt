@@ -31,7 +31,7 @@ pub record IsShaped (v : CoreView) : Type 0 where
 -- wait as may, and at least one may; and the machine's scan is this one. How many blocks may live is not held to yet
 pub record IsSafe (v : CoreView) : Type 0 where
   pub shaped : IsShaped v
-  pub machine : v.state.scan ≡ scan_of v.scan v.state.scan.saved
+  pub machine : v.state.scan ≡ scan_of v.scan
   pub blocks : ℕ
   pub scanned : IsScanOf (room_in v.shape v.end_sector blocks) v.state.graph (born_by v.state.applied) (v.state.applied + 1) v.scan
   pub orderly : IsOrderly v.scan

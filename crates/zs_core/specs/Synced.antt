@@ -1,5 +1,5 @@
 -- What a sync makes of a pool and its scan.
-use Rattle.std.specs.Prelude.{◌≡◌, ◌⊎◌, List, map, Some}
+use Rattle.std.specs.Prelude.{◌≡◌, ◌⊎◌, ℕ, List, map, Some}
 use Rattle.zs_ids.specs.declared.block.Bp.{Bp}
 use Rattle.zs_ids.specs.declared.block.Item.{Item}
 use Rattle.zs_ids.specs.declared.block.Marks.{Marks}
@@ -15,14 +15,15 @@ use Rattle.zs_machine.specs.Steps.{AreWritten, DataStep}
 use Rattle.zs_machine.specs.History.{AddsEvent}
 use Rattle.zs_core.specs.View.{PoolView, scan_of}
 use Rattle.zs_core.specs.Freeing.{HasLost}
+use Rattle.zs_core.specs.Ending.{SavesIfDrained}
 use Rattle.zs_core.specs.Running.{HaveRun}
 
--- the scan ends where it is complete, and else stays as it was
-abbrev pub EndsIfComplete : ScanView → ScanView → Type 0
-EndsIfComplete old new = (IsComplete old × (new ≡ finished old)) ⊎ ((IsComplete old → ⊥) × (new ≡ old))
+-- in the transaction group t the scan ends where it is complete; else it makes a checkpoint where it may
+abbrev pub EndsIfComplete : ℕ → ScanView → ScanView → Type 0
+EndsIfComplete t old new = (IsComplete old × (new ≡ finished old)) ⊎ ((IsComplete old → ⊥) × SavesIfDrained t old new)
 
 -- the closed transaction group is applied to the datasets: what its blocks replaced is freed, then each of its tasks makes of
--- the scan what it does, and then the scan ends where it is complete; all else of it is as it was
+-- the scan what it does, and then the scan ends where it is complete, or makes a checkpoint; all else of it is as it was
 pub record IsSynced (s : PoolState) (old new : ScanView) : Type 0 where
   pub txg : Txg
   pub was_closed : s.closed ≡ Some txg
@@ -31,8 +32,8 @@ pub record IsSynced (s : PoolState) (old new : ScanView) : Type 0 where
   pub freed_scan : ScanView
   pub freed : HasLost s.graph graph old freed_scan
   pub ran_scan : ScanView
-  pub ran : HaveRun txg.txg (record { graph = graph; next_id = s.next_id; scan = scan_of freed_scan s.scan.saved }) txg.tasks freed_scan ran_scan
-  pub ends : EndsIfComplete ran_scan new
+  pub ran : HaveRun txg.txg (record { graph = graph; next_id = s.next_id; scan = scan_of freed_scan }) txg.tasks freed_scan ran_scan
+  pub ends : EndsIfComplete txg.txg ran_scan new
 
 -- each item is that of a block of some pointers
 pub record AreItemsOf (pointers : List (Key × Bp)) (items : List Item) : Type 0 where

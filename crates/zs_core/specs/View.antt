@@ -29,9 +29,9 @@ abbrev pub pointers_in : Option Closed → List (Key × Bp)
 pointers_in None = []
 pointers_in (Some c) = pointers_of_all c.changes.items
 
--- the scan as the machine has it, with the number of its saved entries
-abbrev pub scan_of : ScanView → ℕ → ScanState
-scan_of v saved = record { scope = v.scope; status = v.run.status; paused = v.run.paused; checked = v.checked; saved = saved }
+-- the scan as the machine has it: what is stored with the state that is kept for a crash is saved
+abbrev pub scan_of : ScanView → ScanState
+scan_of v = record { scope = v.scope; status = v.run.status; paused = v.run.paused; checked = v.checked; saved = v.stored }
 
 -- what contracts see of the present state of a pool
 pub record CoreView : Type 0 where
@@ -53,8 +53,8 @@ pub record PoolView : Type 0 where
   pub history : List Event
 
 -- what tasks change, of a pool with these datasets and this scan
-abbrev pub data_of : GraphView → ScanView → ℕ → Data
-data_of v scan saved = record { graph = v.sets; next_id = v.next; scan = scan_of scan saved }
+abbrev pub data_of : GraphView → ScanView → Data
+data_of v scan = record { graph = v.sets; next_id = v.next; scan = scan_of scan }
 
 -- the course of a pool is as it was: its stage, whether it is suspended, and its open reads
 pub record KeepsCourse (old new : PoolState) : Type 0 where

@@ -82,40 +82,44 @@ fn apply_group(
     closed: &Closed,
     graph: &mut Graph<Flat>,
     scan: &mut Scan,
-    saved: &mut usize,
     answers: &mut Vec<Option<Refusal>>,
 ) -> Result<Boxed<Seq<Item>>, AllocError>
     ghost space: { Space }
     requires ready { IsReady space closed.now.txg closed.now.changes.items graph.old.sets scan.old }
     requires empty { answers.old.items ≡ [] }
     ensures ok { IfOk result
-        (λ items. HasApplied closed.now graph.old scan.old saved.old answers.new.items items graph.new scan.new saved.new) }
+        (λ items. HasApplied closed.now graph.old scan.old answers.new.items items graph.new scan.new) }
     ensures tended { IsTended space closed.now.txg.txg graph.new.sets scan.new }
     ensures rest { KeepsRest scan.old scan.new }
 {
     answers.reserve(closed.txg.tasks() as usize)?;
     let mut items = items_of(alloc, &closed.changes)?;
     put_all(&closed.txg, &closed.changes, graph, scan)?;
-    run_tasks(&closed.txg, graph, scan, saved, &mut items, answers)?;
+    run_tasks(&closed.txg, graph, scan, &mut items, answers)?;
     let items = Boxed::new(alloc, Seq::from_vec(items))?;
     Ok(items)
 }
 
-/// Ends the scan where it is complete, and answers whether it did. All its entries are saved then.
-fn end_scan(scan: &mut Scan, saved: &mut usize) -> bool
-    ensures { EndsWith scan.old saved.old result scan.new saved.new }
+/// Ends the scan in a transaction group where it is complete, and answers whether it did. Else it makes a checkpoint, where it
+/// is scanning, paused or not, and nothing waits and no batch is in flight.
+fn end_scan(txg: u64, scan: &mut Scan) -> bool
+    ensures { EndsWith txg scan.old result scan.new }
 {
-    if !scan.finish() {
+    if scan.finish() {
+        return true;
+    }
+    if !scan.is_running() {
         return false;
     }
-    *saved = scan.ledger().len();
-    true
+    scan.checkpoint(txg);
+    false
 }
 
 impl Present {
     /// Applies the closed transaction group, and answers the items of the pieces that are born in it and live, in order of
     /// place. What is not live any more is freed, and the tasks change the datasets and the scan. A scan that is complete then
-    /// comes to its end, so none is complete after. All else of the scan stays as it was. After want of memory the pool is
+    /// comes to its end, so none is complete after; another one makes a checkpoint where it may. All else of the scan stays as it
+    /// was. After want of memory the pool is
     /// suspended, and may have some of the group.
     pub(crate) fn apply(&mut self) -> Result<Boxed<Seq<Item>>, AllocError>
         ghost space: { Space }
@@ -141,7 +145,6 @@ impl Present {
             &closed,
             &mut self.graph,
             &mut self.scan,
-            &mut self.saved,
             &mut answers,
         );
         self.applied = closed.txg.txg();
@@ -151,7 +154,7 @@ impl Present {
             return Err(AllocError);
         };
         self.answers = answers;
-        self.finished = end_scan(&mut self.scan, &mut self.saved);
+        self.finished = end_scan(self.applied, &mut self.scan);
         self.stage = Stage::Labelling;
         Ok(items)
     }

@@ -1,6 +1,6 @@
 //! The pool: its present state, and the history of what happened to it.
 
-ghost use Rattle.std.specs.Prelude.{◌≡◌, ◌≢◌, ◌≤◌, ◌<◌, ◌+◌, ◌++◌, ◌∷◌, [], false, true, length, vec_len, vec_capacity, IfOk, OnOk, OnErr, IsErrOf, MatchOption, take, drop, map, Some, None, OnSome, IfSome, IfNone};
+ghost use Rattle.std.specs.Prelude.{◌≡◌, ◌≢◌, ◌≤◌, ◌<◌, ◌+◌, ◌++◌, ◌∷◌, ◌⊎◌, [], false, true, length, vec_len, vec_capacity, Err, IfOk, OnOk, OnErr, IsErrOf, MatchOption, take, drop, map, Some, None, OnSome, IfSome, IfNone};
 ghost use Rattle.std.specs.Option.{option_copied};
 ghost use Rattle.zs_queue.specs.Waiting.{lowest};
 ghost use Rattle.zs_walk.specs.Walking.{runs};
@@ -215,7 +215,7 @@ impl Pool {
             (λ p. AddsEvent 0 (Step.Made (Command.Pool shape.pool shape.width shape.limit shape.every shape.blocks))
             (Reply.Made shape.pool 1) [] p.history) }
         ensures state { IfOk result (λ p. p.core.state ≡ blank_state shape.width shape.devices) }
-        ensures scan { IfOk result (λ p. p.core.scan ≡ blank_scan shape.devices shape.width shape.limit p.core.scan.room) }
+        ensures scan { IfOk result (λ p. p.core.scan ≡ blank_scan shape.devices shape.width shape.limit shape.every p.core.scan.room) }
         ensures shape { IfOk result (λ p. p.core.shape ≡ shape) }
         ensures pointers { IfOk result (λ p. p.core.pointers ≡ []) }
         ensures space { IfOk result (λ p. p.core.next_sector ≡ data_start shape.blocks) }
@@ -561,7 +561,7 @@ impl Pool {
             turns_left self.old.core.state.graph self.new.core.scan.run < turns_left self.old.core.state.graph self.old.core.scan.run) }
         ensures core { self.new.core ≡ record self.old.core { scan = self.new.core.scan } }
         ensures full { IsErrOf result ScanFault.Full → IsFull self.old.core.state.graph self.old.core.scan }
-        ensures busy { IsErrOf result ScanFault.ScanBusy → ⊥ }
+        ensures why { OnErr result ((result ≡ Err ScanFault.Full) ⊎ (result ≡ Err ScanFault.Memory)) }
         ensures err { OnErr result (self.new ≡ self.old) }
     {
         self.history.reserve(ROOM)?;

@@ -45,7 +45,6 @@ pub(crate) struct Present {
     pub(crate) closed: Option<Closed>,
     pub(crate) stage: Stage,
     pub(crate) scan: Scan,
-    pub(crate) saved: usize,
     pub(crate) suspended: bool,
     pub(crate) answers: Vec<Option<Refusal>>,
     pub(crate) finished: bool,
@@ -69,13 +68,13 @@ impl Present {
     pub(crate) fn blank(alloc: Global, shape: Shape) -> Result<Self, AllocError>
         requires { IsShape shape }
         ensures state { IfOk result (λ p. p.state ≡ blank_state shape.width shape.devices) }
-        ensures scan { IfOk result (λ p. p.scan ≡ blank_scan shape.devices shape.width shape.limit p.scan.room) }
+        ensures scan { IfOk result (λ p. p.scan ≡ blank_scan shape.devices shape.width shape.limit shape.every p.scan.room) }
         ensures shape { IfOk result (λ p. p.shape ≡ shape) }
         ensures pointers { IfOk result (λ p. p.pointers ≡ []) }
         ensures space { IfOk result (λ p. p.next_sector ≡ data_start shape.blocks) }
         ensures end { IfOk result (λ p. IsLeast p.end_sector shape.sectors) }
     {
-        let scan = Scan::blank(alloc, shape.devices, shape.width, shape.limit)?;
+        let scan = Scan::blank(alloc, shape.devices, shape.width, shape.limit, shape.every)?;
         let graph = Graph::new(alloc)?;
         let online = (1u32 << shape.devices) - 1;
         let next_sector = shape.data_start();
@@ -103,7 +102,6 @@ impl Present {
             }),
             stage: Stage::Writing,
             scan,
-            saved: 0,
             suspended: false,
             answers: Vec::new(alloc),
             finished: false,

@@ -1,6 +1,6 @@
 //! The turns of the walk, the batches that are taken, and their verdicts.
 
-ghost use Rattle.std.specs.Prelude.{◌≡◌, ◌≢◌, ◌≤◌, ◌<◌, ◌++◌, IfOk, OnOk, OnErr, IsErrOf, IfSome, false, map, length, filter, Some, None, Ok, option_map};
+ghost use Rattle.std.specs.Prelude.{◌≡◌, ◌≢◌, ◌≤◌, ◌<◌, ◌++◌, ◌⊎◌, Err, IfOk, OnOk, OnErr, IsErrOf, IfSome, false, map, length, filter, Some, None, Ok, option_map};
 ghost use Rattle.zs_queue.specs.Waiting.{lowest};
 ghost use Rattle.zs_scan.specs.View.{pieces_in};
 ghost use Rattle.zs_scan.specs.Steps.{Taken};
@@ -26,7 +26,7 @@ impl Present {
             turns_left self.old.state.graph self.new.scan.run < turns_left self.old.state.graph self.old.scan.run) }
         ensures state { self.new.state ≡ self.old.state }
         ensures full { IsErrOf result ScanFault.Full → IsFull self.old.state.graph self.old.scan }
-        ensures busy { IsErrOf result ScanFault.ScanBusy → ⊥ }
+        ensures why { OnErr result ((result ≡ Err ScanFault.Full) ⊎ (result ≡ Err ScanFault.Memory)) }
         ensures rest { self.new ≡ record self.old { scan = self.new.scan } }
         ensures err { OnErr result (self.new ≡ self.old) }
     {

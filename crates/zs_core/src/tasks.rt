@@ -53,11 +53,10 @@ fn run_fs(
     name: &Name,
     graph: &mut Graph<Flat>,
     scan: &Scan,
-    saved: usize,
     items: &[Item],
 ) -> Result<Option<Refusal>, AllocError>
     ensures ran { IfOk result
-        (λ why. RanTask txg (Task.Fs name.now) graph.old scan.now saved why graph.new scan.now saved) }
+        (λ why. RanTask txg (Task.Fs name.now) graph.old scan.now why graph.new scan.now) }
     ensures runs_on { RunsOn txg graph.old.sets scan.now items.now graph.new.sets scan.now items.now }
 {
     clone_law();
@@ -74,12 +73,11 @@ fn run_snap(
     label: &Name,
     graph: &mut Graph<Flat>,
     scan: &mut Scan,
-    saved: usize,
     items: &[Item],
 ) -> Result<Option<Refusal>, AllocError>
     requires up_to { IsUpTo graph.old.sets txg }
     ensures ran { IfOk result
-        (λ why. RanTask txg (Task.Snap head.now label.now) graph.old scan.old saved why graph.new scan.new saved) }
+        (λ why. RanTask txg (Task.Snap head.now label.now) graph.old scan.old why graph.new scan.new) }
     ensures runs_on { RunsOn txg graph.old.sets scan.old items.now graph.new.sets scan.new items.now }
 {
     graph.facts();
@@ -102,11 +100,10 @@ fn run_clone(
     name: &Name,
     graph: &mut Graph<Flat>,
     scan: &Scan,
-    saved: usize,
     items: &[Item],
 ) -> Result<Option<Refusal>, AllocError>
     ensures ran { IfOk result
-        (λ why. RanTask txg (Task.Clone ds.now name.now) graph.old scan.now saved why graph.new scan.now saved) }
+        (λ why. RanTask txg (Task.Clone ds.now name.now) graph.old scan.now why graph.new scan.now) }
     ensures runs_on { RunsOn txg graph.old.sets scan.now items.now graph.new.sets scan.now items.now }
 {
     graph.facts();
@@ -127,11 +124,10 @@ fn run_destroy(
     ds: &DsName,
     graph: &mut Graph<Flat>,
     scan: &mut Scan,
-    saved: usize,
     items: &mut Vec<Item>,
 ) -> Result<Option<Refusal>, AllocError>
     ensures ran { IfOk result
-        (λ why. RanTask txg (Task.Destroy ds.now) graph.old scan.old saved why graph.new scan.new saved) }
+        (λ why. RanTask txg (Task.Destroy ds.now) graph.old scan.old why graph.new scan.new) }
     ensures runs_on { RunsOn txg graph.old.sets scan.old items.old.items graph.new.sets scan.new items.new.items }
 {
     graph.facts();
@@ -156,11 +152,10 @@ fn run_swap(
     second: &Name,
     graph: &mut Graph<Flat>,
     scan: &mut Scan,
-    saved: usize,
     items: &[Item],
 ) -> Result<Option<Refusal>, AllocError>
     ensures ran { IfOk result
-        (λ why. RanTask txg (Task.Swap first.now second.now) graph.old scan.old saved why graph.new scan.new saved) }
+        (λ why. RanTask txg (Task.Swap first.now second.now) graph.old scan.old why graph.new scan.new) }
     ensures runs_on { RunsOn txg graph.old.sets scan.old items.now graph.new.sets scan.new items.now }
 {
     graph.facts();
@@ -177,22 +172,12 @@ fn run_swap(
 }
 
 /// Starts a scrub of what is born before a transaction group, or resumes a paused one.
-fn run_scrub(
-    txg: u64,
-    graph: &Graph<Flat>,
-    scan: &mut Scan,
-    saved: &mut usize,
-    items: &[Item],
-) -> Option<Refusal>
-    ensures ran { RanTask txg Task.Scrub graph.now scan.old saved.old result graph.now scan.new saved.new }
+fn run_scrub(txg: u64, graph: &Graph<Flat>, scan: &mut Scan, items: &[Item]) -> Option<Refusal>
+    ensures ran { RanTask txg Task.Scrub graph.now scan.old result graph.now scan.new }
     ensures runs_on { RunsOn txg graph.now.sets scan.old items.now graph.now.sets scan.new items.now }
 {
-    let resumes = scan.is_running();
     if scan.start_scrub(txg, 0).is_err() {
         return Some(Refusal::ScanBusy);
-    }
-    if !resumes {
-        *saved = 0;
     }
     None
 }
@@ -203,20 +188,19 @@ pub(crate) fn run_task(
     task: &Task,
     graph: &mut Graph<Flat>,
     scan: &mut Scan,
-    saved: &mut usize,
     items: &mut Vec<Item>,
 ) -> Result<Option<Refusal>, AllocError>
     requires up_to { IsUpTo graph.old.sets txg }
-    ensures ran { IfOk result (λ why. RanTask txg task.now graph.old scan.old saved.old why graph.new scan.new saved.new) }
+    ensures ran { IfOk result (λ why. RanTask txg task.now graph.old scan.old why graph.new scan.new) }
     ensures runs_on { RunsOn txg graph.old.sets scan.old items.old.items graph.new.sets scan.new items.new.items }
 {
     match task {
-        Task::Fs { name } => run_fs(txg, name, graph, scan, *saved, items),
-        Task::Snap { head, label } => run_snap(txg, head, label, graph, scan, *saved, items),
-        Task::Clone { ds, name } => run_clone(txg, ds, name, graph, scan, *saved, items),
-        Task::Destroy { ds } => run_destroy(txg, ds, graph, scan, *saved, items),
-        Task::Swap { first, second } => run_swap(txg, first, second, graph, scan, *saved, items),
-        Task::Scrub => Ok(run_scrub(txg, graph, scan, saved, items)),
+        Task::Fs { name } => run_fs(txg, name, graph, scan, items),
+        Task::Snap { head, label } => run_snap(txg, head, label, graph, scan, items),
+        Task::Clone { ds, name } => run_clone(txg, ds, name, graph, scan, items),
+        Task::Destroy { ds } => run_destroy(txg, ds, graph, scan, items),
+        Task::Swap { first, second } => run_swap(txg, first, second, graph, scan, items),
+        Task::Scrub => Ok(run_scrub(txg, graph, scan, items)),
     }
 }
 
@@ -226,7 +210,6 @@ pub(crate) fn run_tasks(
     txg: &OpenTxg,
     graph: &mut Graph<Flat>,
     scan: &mut Scan,
-    saved: &mut usize,
     items: &mut Vec<Item>,
     answers: &mut Vec<Option<Refusal>>,
 ) -> Result<(), AllocError>
@@ -234,15 +217,15 @@ pub(crate) fn run_tasks(
     requires empty { answers.old.items ≡ [] }
     requires room { vec_len answers.old + length txg.now.tasks ≤ vec_capacity answers.old }
     ensures answers { OnOk result
-        (answers.new.items ≡ task_answers txg.now.txg (data_of graph.old scan.old saved.old) txg.now.tasks) }
+        (answers.new.items ≡ task_answers txg.now.txg (data_of graph.old scan.old) txg.now.tasks) }
     ensures after { OnOk result
-        (data_of graph.new scan.new saved.new ≡ after_tasks txg.now.txg (data_of graph.old scan.old saved.old) txg.now.tasks) }
-    ensures ran { OnOk result (HaveRun txg.now.txg (data_of graph.old scan.old saved.old) txg.now.tasks scan.old scan.new) }
+        (data_of graph.new scan.new ≡ after_tasks txg.now.txg (data_of graph.old scan.old) txg.now.tasks) }
+    ensures ran { OnOk result (HaveRun txg.now.txg (data_of graph.old scan.old) txg.now.tasks scan.old scan.new) }
     ensures runs_on { RunsOn txg.now.txg graph.old.sets scan.old items.old.items graph.new.sets scan.new items.new.items }
 {
     let number = txg.txg();
     for (_, task) in txg.queued() {
-        let refusal = run_task(number, task, graph, scan, saved, items)?;
+        let refusal = run_task(number, task, graph, scan, items)?;
         answers.push_reserved(refusal);
     }
     Ok(())

@@ -104,7 +104,10 @@ verdict_keeps s t (e ∷ es) whole is = verdict_keeps (with_checked s e) t es re
 data_keeps : (s t : PoolState) → (items : List Item) → DataStep s items t → IsWhole t
 data_keeps s t items is = elim is.ended [
   | inl f ↦ subst (λ (x : PoolState). IsWhole x) (sym f.finished) (λ labelling ended. (refl, f.all))
-  | inr none ↦ subst (λ (x : PoolState). IsWhole x) (sym none) (λ labelling ended. absurd cc)
+  | inr other ↦ elim other [
+    | inl f ↦ subst (λ (x : PoolState). IsWhole x) (sym f.saved) (λ labelling ended. absurd cc)
+    | inr none ↦ subst (λ (x : PoolState). IsWhole x) (sym none) (λ labelling ended. absurd cc)
+  ]
 ]
 
 begun_keeps : (s t : PoolState) (by : ℕ) (name : DsName) (object leaf : ℕ) (planned : Option ReadPlan) (answer : Reply) → IsWhole s → ReadBeginStep s by name object leaf planned answer t → IsWhole t

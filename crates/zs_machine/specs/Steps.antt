@@ -197,9 +197,14 @@ pub record Finishes (s t : PoolState) : Type 0 where
   pub all : AllAreChecked s.graph s.scan.scope s.scan.checked
   pub finished : t ≡ record s { scan = record s.scan { status = status.Finished; saved = length s.scan.checked }; finished = true }
 
--- the scan comes to its end, or not
+-- a scan that is running, paused or not, makes a checkpoint: all its entries are saved
+pub record Saves (s t : PoolState) : Type 0 where
+  pub running : is_running s.scan ≡ true
+  pub saved : t ≡ record s { scan = record s.scan { saved = length s.scan.checked }; finished = false }
+
+-- the scan comes to its end, or makes a checkpoint, or neither
 abbrev pub EndStep : PoolState → PoolState → Type 0
-EndStep s t = Finishes s t ⊎ (t ≡ record s { finished = false })
+EndStep s t = Finishes s t ⊎ (Saves s t ⊎ (t ≡ record s { finished = false }))
 
 -- the closed transaction group is applied: its blocks are put over the datasets' own, its tasks run in order, and the scan
 -- may come to its end. The items are those of the pieces that are born in it and live then

@@ -54,7 +54,7 @@ pub fn turn(pool: &mut Pool, by: u8) -> Result<Turned, BayFault>
     match pool.walk(by) {
         Ok(turn) => Ok(outcome_of(turn)),
         Err(ScanFault::Full) => Ok(Turned::Full),
-        Err(ScanFault::Memory | ScanFault::ScanBusy) => Err(BayFault::Memory),
+        Err(_) => Err(BayFault::Memory),
     }
 }
 

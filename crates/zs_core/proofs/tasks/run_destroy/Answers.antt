@@ -13,9 +13,9 @@ use Rattle.zs_core.proofs.tasks.run_destroy.Goals as goal
 pub returns-in-Ok-clause-ran : goal.returns-in-Ok-clause-ran
 returns-in-Ok-clause-ran c =
     let at = found_at c.args.graph.now c.facts.ensures c.args.ds.now c.in-Some.id c.in-Some.ensures in
-    destroy_ran c.args.txg c.args.ds.now c.args.graph.now c.args.scan.now c.args.saved at.0 c.in-Some.id at.1 at.2 at.3 c.destroy.new.self c.destroyed.new.self c.freed_all.new.self c.in-Ok.freed (answers_ok _ _ c.in-Ok.ensures.answers) c.in-Ok.ensures.made (record { run = c.destroyed.ensures.run; rest = c.destroyed.ensures.rest })
+    destroy_ran c.args.txg c.args.ds.now c.args.graph.now c.args.scan.now at.0 c.in-Some.id at.1 at.2 at.3 c.destroy.new.self c.destroyed.new.self c.freed_all.new.self c.in-Ok.freed (answers_ok _ _ c.in-Ok.ensures.answers) c.in-Ok.ensures.made (record { run = c.destroyed.ensures.run; kept = c.destroyed.ensures.kept; rest = c.destroyed.ensures.rest })
     (lost_at_once _ _ c.as_slice.result.now c.destroyed.new.self c.freed_all.new.self (subst (λ (l : List Item). AreFreed c.args.graph.now.sets c.destroy.new.self.sets l) (sym c.as_slice.ensures) c.in-Ok.ensures.made.items) c.freed_all.ensures.rest c.freed_all.ensures.marks)
-    (ap (λ (v : ScanView). scan_of v c.args.saved) c.freed_all.ensures.rest)
+    (ap (λ (v : ScanView). scan_of v) c.freed_all.ensures.rest)
 
 pub returns-in-Ok-clause-runs_on : goal.returns-in-Ok-clause-runs_on
 returns-in-Ok-clause-runs_on c =

@@ -10,9 +10,9 @@ use Rattle.zs_core.proofs.tasks.run_tasks.Given as goal
 abbrev pub invariant-loop-task : goal.invariant-loop-task
 invariant-loop-task l = record {
   up_to : IsUpTo l.graph.sets l.number;
-  answers : l.answers.items ++ task_answers l.number (data_of l.graph l.scan l.saved) (drop l.task-index l.task-items) ≡ task_answers l.number (data_of l.fn.graph l.fn.scan l.fn.saved) l.txg.tasks;
+  answers : l.answers.items ++ task_answers l.number (data_of l.graph l.scan) (drop l.task-index l.task-items) ≡ task_answers l.number (data_of l.fn.graph l.fn.scan) l.txg.tasks;
   room : vec_len l.answers + length l.task-items ≤ vec_capacity l.answers + l.task-index;
-  after : after_tasks l.number (data_of l.graph l.scan l.saved) (drop l.task-index l.task-items) ≡ after_tasks l.number (data_of l.fn.graph l.fn.scan l.fn.saved) l.txg.tasks;
-  ran : (w : ScanView) → HaveRun l.number (data_of l.graph l.scan l.saved) (drop l.task-index l.task-items) l.scan w → HaveRun l.number (data_of l.fn.graph l.fn.scan l.fn.saved) l.txg.tasks l.fn.scan w;
+  after : after_tasks l.number (data_of l.graph l.scan) (drop l.task-index l.task-items) ≡ after_tasks l.number (data_of l.fn.graph l.fn.scan) l.txg.tasks;
+  ran : (w : ScanView) → HaveRun l.number (data_of l.graph l.scan) (drop l.task-index l.task-items) l.scan w → HaveRun l.number (data_of l.fn.graph l.fn.scan) l.txg.tasks l.fn.scan w;
   runs_on : RunsOn l.number l.fn.graph.sets l.fn.scan l.fn.items.items l.graph.sets l.scan l.items.items;
 }

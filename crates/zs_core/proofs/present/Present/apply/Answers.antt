@@ -9,7 +9,9 @@ use Rattle.zs_core.specs.Kept.{Facts, view_of}
 use Rattle.zs_core.specs.Running.{HaveRun}
 use Rattle.zs_core.specs.View.{closed_of, data_of, scan_of, txg_of}
 use Rattle.zs_core.proofs.Complete.{complete_busy, ran_complete}
-use Rattle.zs_core.proofs.Ended.{end_step, ended_flight, ended_if_complete, ended_limit, ended_width}
+use Rattle.zs_core.specs.Ending.{EndsWith}
+use Rattle.zs_core.specs.Synced.{EndsIfComplete}
+use Rattle.zs_core.proofs.Ended.{end_step, ended_if_complete, ended_never, ended_rest}
 use Rattle.zs_core.proofs.PutGroup.{put_data}
 use Rattle.zs_core.proofs.Ready.{ready, space_of}
 use Rattle.zs_core.proofs.Tended.{closed_over, facts_after}
@@ -29,28 +31,29 @@ apply_group-applied-requires g c =
 pub invariant_of-self : goal.invariant_of-self
 invariant_of-self g c =
     rw c.replace.ensures.after (facts_after c.self.inside c.self.invariant c.in-Some.closed (sym c.replace.ensures.value ∙ c.in-Some.is) (ap (λ v. v.state.suspended) c.self.view_is ∙ c.requires.1.0) (ap (λ v. v.state.stage) c.self.view_is ∙ c.requires.1.1) g.space (c.requires.0 ∙ ap space_in (sym c.self.view_is))
-    c.apply_group-applied.new.graph c.apply_group-applied.new.scan c.apply_group-applied.new.scan c.txg-self-inside.result c.apply_group-applied.new.saved Between true c.self.inside.finished c.self.inside.answers c.txg-self-inside.ensures c.apply_group-applied.ensures.tended
+    c.apply_group-applied.new.graph c.apply_group-applied.new.scan c.apply_group-applied.new.scan c.txg-self-inside.result Between true c.self.inside.finished c.self.inside.answers c.txg-self-inside.ensures c.apply_group-applied.ensures.tended
     (λ room sets n h s. s) c.apply_group-applied.ensures.rest.limit c.apply_group-applied.ensures.rest.width (λ up. absurd (true≢false up)))
 
 pub invariant_of-self-2 : goal.invariant_of-self-2
 invariant_of-self-2 g c =
     rw c.replace.ensures.after (facts_after c.self.inside c.self.invariant c.in-Some.closed (sym c.replace.ensures.value ∙ c.in-Some.is) (ap (λ v. v.state.suspended) c.self.view_is ∙ c.requires.1.0) (ap (λ v. v.state.stage) c.self.view_is ∙ c.requires.1.1) g.space (c.requires.0 ∙ ap space_in (sym c.self.view_is))
-    c.apply_group-applied.new.graph c.apply_group-applied.new.scan c.end_scan-self-inside.new.scan c.txg-self-inside.result c.end_scan-self-inside.new.saved Labelling c.self.inside.suspended c.end_scan-self-inside.result c.apply_group-applied.new.answers c.txg-self-inside.ensures c.apply_group-applied.ensures.tended
-    c.end_scan-self-inside.ensures.keeps (ended_limit _ _ _ _ _ c.end_scan-self-inside.ensures ∙ c.apply_group-applied.ensures.rest.limit) (ended_width _ _ _ _ _ c.end_scan-self-inside.ensures ∙ c.apply_group-applied.ensures.rest.width) (λ up. refl))
+    c.apply_group-applied.new.graph c.apply_group-applied.new.scan c.end_scan-self-inside.new.scan c.txg-self-inside.result Labelling c.self.inside.suspended c.end_scan-self-inside.result c.apply_group-applied.new.answers c.txg-self-inside.ensures c.apply_group-applied.ensures.tended
+    c.end_scan-self-inside.ensures.keeps ((ended_rest _ _ _ _ c.end_scan-self-inside.ensures).limit ∙ c.apply_group-applied.ensures.rest.limit) ((ended_rest _ _ _ _ c.end_scan-self-inside.ensures).width ∙ c.apply_group-applied.ensures.rest.width) (λ up. refl))
 
 pub returns-clause-step : goal.returns-clause-step
 returns-clause-step g c =
     let there : c.self.inside.closed ≡ Some c.in-Some.closed = sym c.replace.ensures.value ∙ c.in-Some.is in
     let done = c.in-Ok.ensures.ok in
-    let on = put_data c.in-Some.closed.txg c.self.inside.graph c.self.inside.scan done.mid done.freed c.self.inside.saved done.put in
+    let on = put_data c.in-Some.closed.txg c.self.inside.graph c.self.inside.scan done.mid done.freed done.put in
     rw (← c.self.view_is) (record {
       txg = txg_of c.in-Some.closed.txg;
       was_closed = ap closed_of there;
       graph = done.mid.sets;
       written = (done.put).written;
-      ended = rw (c.txg-self-inside.ensures, c.replace.ensures.after) (end_step (view_of c.self.inside).state (txg_of c.in-Some.closed.txg) (record { graph = done.mid.sets; next_id = c.self.inside.graph.next; scan = scan_of c.self.inside.scan c.self.inside.saved }) g.space
-          c.apply_group-applied.new.graph c.apply_group-applied.new.scan c.end_scan-self-inside.new.scan c.apply_group-applied.new.saved c.end_scan-self-inside.new.saved c.apply_group-applied.new.answers.items c.end_scan-self-inside.result
-          (ap (λ x. after_tasks c.in-Some.closed.txg.txg x c.in-Some.closed.txg.tasks) (sym on) ∙ sym done.ran) (done.answered ∙ ap (λ x. task_answers c.in-Some.closed.txg.txg x c.in-Some.closed.txg.tasks) on) c.apply_group-applied.ensures.tended c.end_scan-self-inside.ensures);
+      ended = rw (c.txg-self-inside.ensures, c.replace.ensures.after) (end_step (view_of c.self.inside).state (txg_of c.in-Some.closed.txg) (record { graph = done.mid.sets; next_id = c.self.inside.graph.next; scan = scan_of c.self.inside.scan }) g.space
+          c.apply_group-applied.new.graph c.apply_group-applied.new.scan c.end_scan-self-inside.new.scan c.apply_group-applied.new.answers.items c.end_scan-self-inside.result
+          (ap (λ x. after_tasks c.in-Some.closed.txg.txg x c.in-Some.closed.txg.tasks) (sym on) ∙ sym done.ran) (done.answered ∙ ap (λ x. task_answers c.in-Some.closed.txg.txg x c.in-Some.closed.txg.tasks) on) c.apply_group-applied.ensures.tended
+          (subst (λ (n : ℕ). EndsWith n c.apply_group-applied.new.scan c.end_scan-self-inside.result c.end_scan-self-inside.new.scan) c.txg-self-inside.ensures c.end_scan-self-inside.ensures));
       born = done.born;
     })
 
@@ -59,7 +62,7 @@ returns-clause-complete g c = λ was.
     let done = c.in-Ok.ensures.ok in
     let lost = (done.put).lost in
     let freed = freed_complete c.self.inside.scan done.freed lost.pieces (lost.freed).rest (rw (← c.self.view_is) at was) in
-    c.end_scan-self-inside.ensures.complete.1 (ran_complete c.in-Some.closed.txg.txg (data_of done.mid done.freed c.self.inside.saved) c.in-Some.closed.txg.tasks done.freed c.apply_group-applied.new.scan (complete_busy done.freed c.self.inside.saved freed) done.seen freed)
+    c.end_scan-self-inside.ensures.complete.1 (ran_complete c.in-Some.closed.txg.txg (data_of done.mid done.freed) c.in-Some.closed.txg.tasks done.freed c.apply_group-applied.new.scan (complete_busy done.freed freed) done.seen freed)
 
 pub returns-clause-scan : goal.returns-clause-scan
 returns-clause-scan g c =
@@ -73,9 +76,12 @@ returns-clause-scan g c =
       freed_scan = done.freed;
       freed = (done.put).lost;
       ran_scan = c.apply_group-applied.new.scan;
-      ran = subst (λ (n : ℕ). HaveRun c.in-Some.closed.txg.txg (record { graph = done.mid.sets; next_id = n; scan = scan_of done.freed c.self.inside.saved }) c.in-Some.closed.txg.tasks done.freed c.apply_group-applied.new.scan) (done.put).next done.seen;
-      ends = ended_if_complete _ _ _ _ _ c.end_scan-self-inside.ensures;
+      ran = subst (λ (n : ℕ). HaveRun c.in-Some.closed.txg.txg (record { graph = done.mid.sets; next_id = n; scan = scan_of done.freed }) c.in-Some.closed.txg.tasks done.freed c.apply_group-applied.new.scan) (done.put).next done.seen;
+      ends = subst (λ (n : ℕ). EndsIfComplete n c.apply_group-applied.new.scan c.end_scan-self-inside.new.scan) c.txg-self-inside.ensures (ended_if_complete _ _ _ _ c.end_scan-self-inside.ensures);
     })
 
 pub returns-clause-flight : goal.returns-clause-flight
-returns-clause-flight g c = rw (← c.self.view_is) (ended_flight _ _ _ _ _ c.end_scan-self-inside.ensures ∙ c.apply_group-applied.ensures.rest.flight)
+returns-clause-flight g c = rw (← c.self.view_is) ((ended_rest _ _ _ _ c.end_scan-self-inside.ensures).flight ∙ c.apply_group-applied.ensures.rest.flight)
+
+pub returns-clause-never : goal.returns-clause-never
+returns-clause-never g c = ended_never _ _ _ _ c.end_scan-self-inside.ensures

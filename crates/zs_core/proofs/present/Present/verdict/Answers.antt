@@ -20,4 +20,4 @@ invariant_of-self c =
 pub returns-clause-step : goal.returns-clause-step
 returns-clause-step c =
     let f : Facts c.self.inside = c.self.invariant in
-    rw (← c.self.view_is) (judged_step (view_of c.self.inside).state c.self.inside.scan c.verdict.new.self c.self.inside.saved c.args.number c.args.entries.now c.in_ok-made.made.items refl c.facts.ensures c.verdict.ensures.judged c.in_ok-made.ensures (rw c.in_ok-made.ensures (c.verdict.ensures.made_of _ (f.scan).live)))
+    rw (← c.self.view_is) (judged_step (view_of c.self.inside).state c.self.inside.scan c.verdict.new.self c.args.number c.args.entries.now c.in_ok-made.made.items refl c.facts.ensures c.verdict.ensures.judged c.in_ok-made.ensures (rw c.in_ok-made.ensures (c.verdict.ensures.made_of _ (f.scan).live)))
