@@ -1,4 +1,5 @@
 """Lines that are faulty or nearly so, and spellings of a script that change nothing."""
+from lines import CHECKPOINTS
 
 BAD = [b'pool 7 2 8 4 64', b'sync x', b'scrub x', b'scrub address', b'   ', b'\tsync', b'sync\t', b'sync\r', b'sy\rnc',
        b'sync\x7f', b'\xffsync', b'# c\xff', b'', b' # x', b'finish 1', b'finish x',
@@ -50,6 +51,13 @@ LATER = [b'open', b'reopen', b'pause', b'resume', b'pause x', b'stop', b'resilve
          b'ROT 0 296 1', b'error', b'Errors', b'lan', b'snaps', b'Snap a s', b'snapshot a s', b'clones', b'lists', b'LIST',
          b'swp a b', b'destroy\x00a', b'ls', b'swap\ta b', b'promote a', b'hold\x00 0 1', b'$origin', b'walk-1', b'rechecked',
          b'rebuild 1']
+
+HALTS = [b'pause', b'pause x', b'pause 1', b'pause pause', b'resume', b'resume x', b'resume 0', b'stop', b'stop x', b'stop 1 2',
+         b'stop scrub']
+if CHECKPOINTS:
+    BAD += HALTS
+    LATER = [l for l in LATER if l not in HALTS]
+    LATER += [b'Pause', b'paused', b'pause\t', b'resumes', b'RESUME', b'stopp', b'Stop', b'stop\x00']
 
 
 def spoil(rng, L):

@@ -1,10 +1,11 @@
 """What a script does to a pool: its replies, its status, and every byte of its images."""
 import collections, hashlib
 from datasets import ROOT, Block, Datasets, Refused, dnode_key, record_key
-from lines import TASKS, parse
+from lines import CHECKPOINTS, PAUSES, TASKS, parse
 from scan import Scan
 
 COMPLEMENT = bytes(255-b for b in range(256))
+STOPS = ('Nothing', 'Full', 'Draining')  # what a walk ends with
 
 
 def pointer(place, sectors, birth, level, sm):
@@ -20,7 +21,7 @@ def pointer(place, sectors, birth, level, sm):
 
 class Pool:
     """The pool after its `pool` line. With each_step it asserts after every step what it else asserts after a line."""
-    def __init__(self, idn, W, limit, start, end, images, each_step=False):
+    def __init__(self, idn, W, limit, every, start, end, images, each_step=False):
         self.idn, self.W, self.limit, self.start, self.end, self.images = idn, W, limit, start, end, images
         self.each_step, self.steps = each_step, 0
         self.next = start       # the sector after all places taken
@@ -32,7 +33,7 @@ class Pool:
         self.rotten = [set() for _ in images]  # per device the sectors that `rot` turned, and nothing restored
         self.notes = collections.Counter()
         self.sets = Datasets()
-        self.scan = Scan(limit, self.sets, self.notes)
+        self.scan = Scan(limit, every, self.sets, self.notes)
 
     # ---- copies
     def good(self, piece):
@@ -96,7 +97,7 @@ class Pool:
 
     # ---- the walk, and batches
     def turn(self):
-        t = self.scan.turn()
+        t = self.scan.turn(self.txg-1)
         self.step()
         return t
 
@@ -105,7 +106,7 @@ class Pool:
         why = b'more'
         while k < n:
             t = self.turn()
-            if t in ('Nothing', 'Full'):
+            if t in STOPS:
                 why = t.lower().encode()
                 break
             k += 1
@@ -249,7 +250,8 @@ class Pool:
         elif c == b'snap': self.scan.snapshotted(*self.sets.snap(*a, self.txg))
         elif c == b'clone': self.sets.clone(*a)
         elif c == b'swap': self.scan.swapped(*self.sets.swap(*a))
-        elif c == b'scrub': self.scan.start(self.txg)
+        elif c == b'scrub': self.scan.scrub(self.txg)
+        elif c in PAUSES: getattr(self.scan, c.decode())()
         else:
             was = self.sets.live()
             self.scan.destroyed(*self.sets.destroy(*a))
@@ -269,50 +271,62 @@ class Pool:
         self.tasks = []
         scan = self.scan
         if scan.complete():
-            scan.status = 'finished'
+            scan.finish()
             errors = len(scan.error_list())
             out += b'finished scrub %d %d\n' % (len(scan.ledger), errors)
             self.notes['finished by a plain sync' if plain else 'finished by finish'] += 1
             if errors: self.notes['finished with errors'] += 1
-        elif scan.running and scan.flight: self.notes['sync with a batch in flight'] += 1
+        else:
+            if scan.running and scan.flight: self.notes['sync with a batch in flight'] += 1
+            scan.checkpoint(self.txg)
         self.txg += 1
+        self.step()
         return out
 
     def finish(self):
-        if not self.scan.running: raise Refused('NoScan')
-        if self.scan.flight: self.notes['finish with a batch in flight'] += 1
-        if self.scan.at is not None: self.notes['finish in mid-walk'] += 1
+        scan = self.scan
+        if not scan.running: raise Refused('NoScan')
+        if scan.paused: raise Refused('Paused')
+        if scan.flight: self.notes['finish with a batch in flight'] += 1
+        if scan.run.at is not None: self.notes['finish in mid-walk'] += 1
         self.land()
-        out = b''
-        while True:
+        syncs = []
+        while not syncs or scan.running and not scan.paused:
+            assert len(syncs) < 2, 'a checkpoint is due once in a finish, and what is left is walked at once'
             t = None
-            while t not in ('Nothing', 'Full'): t = self.turn()
+            while t not in STOPS: t = self.turn()
             if t == 'Full': self.notes['finish with a full queue'] += 1
-            while self.scan.waiting: self.issue(0, 32)
-            if t == 'Full': continue
-            out += self.sync(False)
-            if not self.scan.running: return out
+            while scan.waiting: self.issue(0, 32)
+            if t != 'Full': syncs.append(self.sync(False))
+        if len(syncs) > 1: self.notes['finish over a sync that does not finish'] += 1
+        if scan.paused: self.notes['finish of a scan that is then paused'] += 1
+        elif scan.run.status == 'canceled': self.notes['finish of a scan that is then stopped'] += 1
+        return b''.join(syncs)
 
     # ---- lines
     def show(self):
-        scan = self.scan
+        scan, run = self.scan, self.scan.run
         out = b'txg %d\n' % self.txg
-        if scan.status == 'none': return out+b'scan none\n'
+        if run.status == 'none': return out+b'scan none\n'
+        status = 'paused' if run.paused else run.status
         out += b'scan scrub %s checked %d errors %d waiting %d flight %d\n' % (
-            scan.status.encode(), len(scan.ledger), len(scan.error_list()), len(scan.waiting), len(scan.flying()))
-        if scan.error_list(): self.notes['status %s with errors' % scan.status] += 1
-        where = scan.stands_at
-        if scan.running:
-            out += b'range %d %d\n' % (scan.min, scan.max)
-            if where is None: out += b'at destroyed\n' if scan.at else b'at none\n'
-            else:
-                out += b'at %s %d.%d.%d.%d pass %d %d' % ((where.name,)+scan.at[1]+(scan.curmin, scan.curmax))
-                out += b' again\n' if scan.again else b'\n'
-            out += b'todo'+b''.join(b' %s:%d' % (d.name, m) for d, m in scan.todo)+b'\n'
-        kind = scan.at or 'none' if where is None else 'head' if where.is_head else 'origin' if where.id == 0 else 'snapshot'
-        self.notes['status %s at %s%s' % (scan.status, kind, ', again' if scan.again else '')] += 1
+            status.encode(), len(scan.ledger), len(scan.error_list()), len(scan.waiting), len(scan.flying()))
+        if scan.error_list(): self.notes['status %s with errors' % status] += 1
+        if run.running: out += b'range %d %d\n' % (scan.min, scan.max) + self.place(run)
+        where = run.stands_at
+        kind = run.at or 'none' if where is None else 'head' if where.is_head else 'origin' if where.id == 0 else 'snapshot'
+        self.notes['status %s at %s%s' % (status, kind, ', again' if run.again else '')] += 1
         if scan.flight and len(scan.flying()) < sum(map(len, scan.flight)): self.notes['status with freed in flight'] += 1
         return out
+
+    def place(self, state):
+        """Where a state is, and what it has in todo."""
+        where = state.stands_at
+        if where is None: out = b'at destroyed\n' if state.at else b'at none\n'
+        else:
+            out = b'at %s %d.%d.%d.%d pass %d %d' % ((where.name,)+state.at[1]+(state.curmin, state.curmax))
+            out += b' again\n' if state.again else b'\n'
+        return out+b'todo'+b''.join(b' %s:%d' % (d.name, m) for d, m in state.todo)+b'\n'
 
     def line(self, c, a):
         """The reply to one script line after `pool`."""
@@ -354,17 +368,18 @@ def refusal(W, B, images):
     if any(len(i)//512 > 2097152 for i in images): return b'TooLarge'
 
 
-def answer(words, script, images, each_step=False):
+def answer(words, script, images, each_step=False, checkpoints=CHECKPOINTS):
     """images: a list of bytearray, or None where missing. Answers status, stdout, and the pool or None; changes the images."""
     if len(words) < 2 or words[0] != 'step' or len(words) > 17 or any(w == '' or w[0] == '-' for w in words[1:]):
         return 1, b'usage\n', None
-    p = parse(script)
+    p = parse(script, checkpoints)
     if p[0] == 'bad': return 2, b'script %d %s\n' % (p[1], p[2].encode()), None
     if any(i is None for i in images): return 4, b'', None
     idn, W, limit, every, B = [int(x) for x in p[1][0][1]]
     why = refusal(W, B, images)
     if why: return 3, b'refused %s\n' % why, None
-    pool = Pool(idn, W, limit, data_start(B), min(len(i)//512 for i in images), images, each_step)
+    if not checkpoints: every = None
+    pool = Pool(idn, W, limit, every, data_start(B), min(len(i)//512 for i in images), images, each_step)
     return 0, b'pool %d mirrors 1 txg 1\n' % idn + b''.join(pool.line(c, a) for c, a in p[1][1:]), pool
 
 

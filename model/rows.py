@@ -1,8 +1,10 @@
-"""Worked examples: a script and what it prints."""
-from pool import run
+"""Worked examples: a script and what it prints, and what stands in the cached state after it."""
+import itertools
+from pool import answer, run
 
 B7 = 'pool 7 2 8 4 64; fs a; sync; make a 1 1 512 5; sync'
 B1 = B7.replace('pool 7 2 8 4', 'pool 7 2 1 4')
+E1, E2 = (B7.replace('pool 7 2 8 4', 'pool 7 2 8 %d' % every) for every in (1, 2))  # with a checkpoint due after so many txgs
 B_OUT = 'pool 7 mirrors 1 txg 1; queued 2 1; sync 2; task 1 ok; wrote a 1 0 3; sync 3'
 FS, FS_OUT = 'pool 7 2 8 4 64; fs a; sync', 'pool 7 mirrors 1 txg 1; queued 2 1; sync 2; task 1 ok'
 MANY = '; '.join('fs n%d' % i for i in range(254))
@@ -156,21 +158,123 @@ ROWS = [
      'land 3 0/296:GG 0/304:GG 0/312:GG 0/313:-; sync 7; finished scrub 3 0'),
 ]
 
+# these have a checkpoint that is due, or the tasks on a scan that runs
+HALTING = [
+    ('a paused scrub', 512, f'{B7}; {START}; pause; sync; walk 10; finish; scrub; sync; status; finish',
+     f'{B_OUT}; {START_OUT}; queued 5 1; sync 5; task 1 ok; walk 0 nothing waiting 0; refused Paused; queued 6 1; sync 6; task 1 ok;'
+     'txg 7; scan scrub scanning checked 0 errors 0 waiting 0 flight 0; range 0 4; at none; todo $origin:0; sync 7;'
+     'finished scrub 3 0'),
+    ('a checkpoint that is due', 512, f'{E1}; {START}; walk 4; sync; walk 10; issue 0 1; walk 10; sync; walk 10',
+     f'{B_OUT}; {START_OUT}; walk 4 more waiting 1; sync 5; walk 0 draining waiting 1; issue 0 1 296:GG; walk 0 draining waiting 0;'
+     'sync 6; walk 3 nothing waiting 2'),
+    ('draining goes before full', 512, f'{E1.replace("2 8 1", "2 1 1")}; {START}; walk 100; sync; walk 100; issue 0 1; sync; walk 100',
+     f'{B_OUT}; {START_OUT}; walk 4 full waiting 1; sync 5; walk 0 draining waiting 1; issue 0 1 296:GG; sync 6;'
+     'walk 1 full waiting 1'),
+    ('nothing goes before draining', 512, f'{E1}; {START}; walk 100; sync; walk 1; hold 0 10; sync; walk 1; land; sync',
+     f'{B_OUT}; {START_OUT}; walk 7 nothing waiting 3; sync 5; walk 0 nothing waiting 3; hold 0 3 296 304 312; sync 6;'
+     'walk 0 nothing waiting 0; land 3 0/296:GG 0/304:GG 0/312:GG; sync 7; finished scrub 3 0'),
+    ('a turn that skips or enters drains, too', 512, f'{E1}; {START}; walk 4; destroy a; fs b; hold 0 1; sync; walk 1; land; sync; walk 1;'
+     'walk 9',
+     f'{B_OUT}; {START_OUT}; walk 4 more waiting 1; queued 5 1; queued 5 2; hold 0 1 296; sync 5; task 1 ok; task 2 ok;'
+     'walk 0 draining waiting 0; land 0 0/296:-; sync 6; walk 1 more waiting 0; walk 0 nothing waiting 0'),
+    ('checkpoints before they are due, and a pause while one is', 512, f'{E2}; {START}; sync; walk 4; sync; walk 1; sync; walk 1; pause; sync;'
+     'walk 1; resume; sync; walk 1; issue 0 2; walk 1; sync; walk 1',
+     f'{B_OUT}; {START_OUT}; sync 5; walk 4 more waiting 1; sync 6; walk 1 more waiting 2; sync 7; walk 0 draining waiting 2;'
+     'queued 8 1; sync 8; task 1 ok; walk 0 nothing waiting 2; queued 9 1; sync 9; task 1 ok; walk 0 draining waiting 2;'
+     'issue 0 2 296:GG 304:GG; walk 0 draining waiting 0; sync 10; walk 1 more waiting 1'),
+    ('a checkpoint of a paused scrub', 512, f'{E1}; {START}; walk 4; pause; issue 0 1; sync; resume; sync; walk 1; sync; walk 1',
+     f'{B_OUT}; {START_OUT}; walk 4 more waiting 1; queued 5 1; issue 0 1 296:GG; sync 5; task 1 ok; queued 6 1; sync 6; task 1 ok;'
+     'walk 1 more waiting 1; sync 7; walk 0 draining waiting 1'),
+    ('a finish over a checkpoint', 512, f'{E1}; {START}; walk 4; sync; finish; status',
+     f'{B_OUT}; {START_OUT}; walk 4 more waiting 1; sync 5; sync 6; sync 7; finished scrub 3 0; txg 8;'
+     'scan scrub finished checked 3 errors 0 waiting 0 flight 0'),
+    ('a finish of a scrub that a task pauses', 512, f'{B7}; {START}; pause; finish; status; resume; sync',
+     f'{B_OUT}; {START_OUT}; queued 5 1; sync 5; task 1 ok; txg 6; scan scrub paused checked 3 errors 0 waiting 0 flight 0;'
+     'range 0 4; at none; todo; queued 6 1; sync 6; task 1 ok; finished scrub 3 0'),
+    ('a finish of a scrub that another follows', 512, f'{B7}; {START}; stop; scrub; finish',
+     f'{B_OUT}; {START_OUT}; queued 5 1; queued 5 2; sync 5; task 1 ok; task 2 ok; sync 6; finished scrub 3 0'),
+    ('refusals of pause, resume, stop and scrub', 512, f'{B7}; pause; resume; stop; sync; scrub; resume; pause; pause; resume; resume; scrub;'
+     'pause; scrub; stop; stop; pause; resume; scrub; pause; stop; sync; status; finish',
+     f'{B_OUT}; queued 4 1; queued 4 2; queued 4 3; sync 4; task 1 refused NoScan; task 2 refused NotPaused; task 3 refused NoScan; '
+     + '; '.join('queued 5 %d' % k for k in range(1, 17)) + '; sync 5; task 1 ok; task 2 refused NotPaused; task 3 ok;'
+     'task 4 refused Paused; task 5 ok; task 6 refused NotPaused; task 7 refused ScanBusy; task 8 ok; task 9 ok; task 10 ok;'
+     'task 11 refused NoScan; task 12 refused NoScan; task 13 refused NotPaused; task 14 ok; task 15 ok; task 16 ok; txg 6;'
+     'scan scrub canceled checked 0 errors 0 waiting 0 flight 0; refused NoScan'),
+    ('a paused scrub keeps what waits, and its range and ledger', 512, f'{B7}; {START}; walk 5; pause; sync; walk 9; status; issue 0 1; hold 0 1;'
+     'sync; land; make a 2 1 512 6; scrub; sync; status; finish',
+     f'{B_OUT}; {START_OUT}; walk 5 more waiting 2; queued 5 1; sync 5; task 1 ok; walk 0 nothing waiting 2; txg 6;'
+     'scan scrub paused checked 0 errors 0 waiting 2 flight 0; range 0 4; at a 0.0.0.2 pass 1 4; todo; issue 0 1 296:GG;'
+     'hold 0 1 304; sync 6; land 1 0/304:GG; wrote a 2 0 7; queued 7 1; sync 7; task 1 ok; txg 8;'
+     'scan scrub scanning checked 2 errors 0 waiting 0 flight 0; range 0 4; at a 0.0.0.2 pass 1 4; todo; sync 8; finished scrub 3 0'),
+    ('a batch of a scrub that was stopped', 512, f'{B7}; {START}; walk 100; issue 0 1; hold 0 1; stop; sync; status; scrub; sync; walk 100;'
+     'issue 0 10; sync; land; sync',
+     f'{B_OUT}; {START_OUT}; walk 7 nothing waiting 3; issue 0 1 296:GG; hold 0 1 304; queued 5 1; sync 5; task 1 ok; txg 6;'
+     'scan scrub canceled checked 1 errors 0 waiting 0 flight 0; queued 6 1; sync 6; task 1 ok; walk 7 nothing waiting 3;'
+     'issue 0 3 296:GG 304:GG 312:GG; sync 7; land 0 0/304:-; sync 8; finished scrub 3 0'),
+    ('draining until a batch of a scrub that was stopped lands', 512, f'{E1}; {START}; walk 4; hold 0 1; stop; scrub; sync; walk 1; sync; walk 1;'
+     'sync; walk 1; land; sync; walk 3',
+     f'{B_OUT}; {START_OUT}; walk 4 more waiting 1; hold 0 1 296; queued 5 1; queued 5 2; sync 5; task 1 ok; task 2 ok;'
+     'walk 1 more waiting 0; sync 6; walk 0 draining waiting 0; sync 7; walk 0 draining waiting 0; land 0 0/296:-; sync 8;'
+     'walk 3 more waiting 1'),
+    ('the errors of a scrub that was stopped', 512, f'{B7}; rot 0 312 1; rot 1 312 1; {START}; walk 100; issue 0 10; stop; sync; errors; status',
+     f'{B_OUT}; rot 0 312 1; rot 1 312 1; {START_OUT}; walk 7 nothing waiting 3; issue 0 3 296:GG 304:GG 312:BB; queued 5 1; sync 5;'
+     'task 1 ok; errors 1; error 0 312 3 BB; txg 6; scan scrub canceled checked 3 errors 1 waiting 0 flight 0'),
+    ('a word after pause', 512, 'pool 7 2 8 4 64; pause x', 'script 2 Count'),
+    ('a word after scrub', 512, 'pool 7 2 8 4 64; scrub x', 'script 2 Word'),
+]
+# what an opening would go on from: the state, how many entries of the ledger, where the walk is, and todo
+AT, CHECKPOINT = f'{B7}; {START}; walk 4', 'issue 0 10; sync'
+TWO = 'pool 7 2 16 4 64; fs a; sync; make a 1 1 512 10; snap a s; clone a@s b; sync; write a 1 0 11; write b 1 0 12; sync; scrub; sync'
+OLD = f'{FS}; make a 1 1 512 10; snap a s; sync; write a 1 0 11; sync; scrub; sync'
+KEPT = [
+    ('a scrub that starts', f'{B7}; {START}; walk 100', 'scanning 0; at none; todo $origin:0'),
+    ('a checkpoint in mid-walk', f'{AT}; {CHECKPOINT}; walk 1; issue 0 10', 'scanning 1; at a 0.0.0.1 pass 1 4; todo'),
+    ('a checkpoint that pieces wait for', f'{AT}; sync', 'scanning 0; at none; todo $origin:0'),
+    ('a checkpoint that a batch is in flight for', f'{AT}; hold 0 1; sync', 'scanning 0; at none; todo $origin:0'),
+    ('a snapshot destroyed after the checkpoint', f'{OLD}; walk 6; {CHECKPOINT}; walk 3; destroy a@s; sync',
+     'scanning 3; at a 1.1.0.4 pass 1 3 again; todo'),
+    ('a snapshot destroyed that waits in todo', f'{OLD}; walk 2; sync; walk 4; hold 0 1; destroy a@s; sync', 'scanning 0; at none; todo a:1'),
+    ('a snapshot taken after the checkpoint', f'{AT}; {CHECKPOINT}; walk 3; snap a s; sync', 'scanning 1; at a@s 0.0.0.1 pass 1 4; todo'),
+    ('a head destroyed after the checkpoint', f'{AT}; {CHECKPOINT}; walk 3; hold 0 1; destroy a; sync', 'scanning 1; at destroyed; todo'),
+    ('a swap after the checkpoint', f'{TWO}; walk 8; {CHECKPOINT}; walk 6; swap a b; sync', 'scanning 3; at b 0.0.0.0 pass 3 5; todo a:3'),
+    ('a pause after the checkpoint', f'{AT}; {CHECKPOINT}; walk 1; pause; sync', 'paused 1; at a 0.0.0.1 pass 1 4; todo'),
+    ('a pause and a scrub after the checkpoint', f'{AT}; {CHECKPOINT}; walk 1; pause; scrub; sync', 'scanning 1; at a 0.0.0.1 pass 1 4; todo'),
+    ('a stop', f'{AT}; {CHECKPOINT}; walk 2; issue 0 1; stop; sync', 'canceled 2; at none; todo'),
+    ('a scrub after a stop', f'{AT}; issue 0 1; walk 1; hold 0 1; stop; scrub; sync', 'scanning 0; at none; todo $origin:0'),
+    ('a scrub that finished', f'{B7}; {START}; finish', 'finished 3; at none; todo'),
+]
+
+
+def split(s): return [l.strip() for l in s.split(';')]
+def ran(script, sectors, checkpoints):
+    """Status, the lines that were printed, the pool, and whether the images of both devices are the same."""
+    imgs = [bytearray(sectors*512), bytearray(sectors*512)]
+    st, out, pool = answer(['step', 'x', 'y'], ('\n'.join(split(script))+'\n').encode(), imgs, True, checkpoints)
+    return st, out.decode().split('\n')[:-1], pool, imgs[0] == imgs[1]
+
+
+def kept(pool):
+    scan, state = pool.scan, pool.scan.kept
+    return ['%s %d' % ('paused' if state.paused else state.status, scan.stored)]+pool.place(state).decode().split('\n')[:-1]
+
+
+def holds(name, got, want, so_far=True):
+    """Prints whether an example holds, and where it does not."""
+    ok = got == want and so_far
+    print('example', name, 'holds' if ok else 'FAILS')
+    if not ok:
+        for a, b in itertools.zip_longest(want, got, fillvalue='-'): print('   ' if a == b else '***', a, '|', b)
+    return ok
+
 
 def rows():
-    bad = 0
-    for name, sectors, script, want in ROWS:
-        lines = lambda s: [l.strip() for l in s.split(';')]
-        imgs = [bytearray(sectors*512), bytearray(sectors*512)]
-        st, out = run(['step', 'x', 'y'], ('\n'.join(lines(script))+'\n').encode(), imgs)
-        got = out.decode().split('\n')[:-1]
-        ok = got == lines(want) and st == (2 if want.startswith('script') else 0) and imgs[0] == imgs[1]
-        print('example', name, 'holds' if ok else 'FAILS')
-        if not ok:
-            bad += 1
-            for i in range(max(len(got), len(lines(want)))):
-                a, b = (lines(want)+['-']*99)[i], (got+['-']*99)[i]
-                print('   ' if a == b else '***', a, '|', b)
-    assert run([], b'', []) == (1, b'usage\n')
-    assert bad == 0, '%d examples fail' % bad
+    """Each example with checkpoints; those without a checkpoint that is due also without."""
+    oks = [run([], b'', []) == (1, b'usage\n')]
+    for modes, examples in (((False, True), ROWS), ((True,), HALTING)):
+        for name, sectors, script, want in examples:
+            for checkpoints in modes:
+                st, got, _, same = ran(script, sectors, checkpoints)
+                oks.append(holds(name, got, split(want), same and st == (2 if want.startswith('script') else 0)))
+    for name, script, want in KEPT: oks.append(holds('of what is cached: '+name, kept(ran(script, 512, True)[2]), split(want)))
+    assert all(oks), '%d examples fail' % oks.count(False)
     print('all examples hold')

@@ -1,11 +1,12 @@
 """Random scripts and images. The generator runs the model beside, so that it knows what is worth a line."""
 from faulty import decorate, spoil
-from lines import U64
+from lines import CHECKPOINTS, U64
 from pool import Pool, data_start
 
 # weights of the actions; 'vdev' is a batch of another mirror
 ACTS = ['fs', 'make', 'write', 'read', 'sync', 'scrub', 'finish', 'walk', 'walkall', 'issue', 'hold', 'land', 'status', 'vdev',
         'rot', 'errors', 'snap', 'clone', 'destroy', 'swap', 'list']
+HALTS = ['pause', 'resume', 'stop']
 PROFILES = {
     'mixed':  [2, 6, 8, 5, 8, 4, 3, 10, 4, 7, 7, 6, 8, 1, 5, 2, 4, 3, 3, 2, 2],
     'hold':   [1, 3, 14, 3, 12, 4, 2, 8, 6, 3, 14, 7, 6, 1, 6, 1, 3, 2, 4, 1, 1],
@@ -228,7 +229,7 @@ class Gen:
         self.scrub()
         for _ in range(rng.choice([2, 3, 5, 8])):
             self.put(b'walk %d' % rng.choice([1, 1, 1, 2, 3]))
-            d = self.pool.scan.stands_at
+            d = self.pool.scan.run.stands_at
             if d is None or d is sets.origin: continue
             beside = [h for h in sets.heads() if h is not d and h.parent is d.parent]
             what = rng.choice(['snap', 'swap', 'destroy', 'write', None] if d.is_head else ['destroy', 'destroy', 'destroy', 'clone', None])
@@ -249,6 +250,65 @@ class Gen:
         for _ in range(rng.choice([0, 1, 1, 2, 3])): self.act(rng.choice(['snap', 'snap', 'snap', 'clone', 'clone', 'fs', 'swap', 'destroy']))
         self.act('sync')
 
+    def drain(self):
+        """Mostly all that waits is issued, what is in flight lands, and a sync makes a checkpoint."""
+        rng = self.rng
+        if self.pool.scan.waiting and rng.random() < .95: self.put(b'issue 0 1024')
+        if self.pool.scan.flight and rng.random() < .95: self.act('land')
+        if rng.random() < .1: self.act('write')
+        self.act('sync')
+
+    def parted(self):
+        """A checkpoint in mid-walk, after it some more walk, and then changes on two states that stand apart."""
+        rng = self.rng
+        self.scrub()
+        for _ in range(rng.choice([1, 1, 2])):
+            self.put(b'walk %d' % rng.choice([1, 2, 3, 4, 5, 6, 8, 13]))
+            self.drain()
+            for _ in range(rng.choice([1, 1, 2, 3, 5])):
+                if rng.random() < .8: self.put(b'walk %d' % rng.choice([1, 1, 2, 3, 5, 8, 1000]))
+                if rng.random() < .3: self.act(rng.choice(['issue', 'issue', 'hold', 'pause', 'resume', 'scrub', 'stop']))
+                for _ in range(rng.choice([0, 0, 1, 2])): self.act('write')
+                if rng.random() < .9: self.tasks(3)
+                self.act('sync')
+                if rng.random() < .3: self.act('status')
+        if rng.random() < .4: self.drain()
+        if rng.random() < .3: self.act('finish')
+
+    def halted(self):
+        """A scan is paused or stopped with what waits and flies, and goes on, or another starts."""
+        rng = self.rng
+        self.scrub()
+        if rng.random() < .9: self.act(rng.choice(['walk', 'walk', 'walkall']))
+        if rng.random() < .7: self.act(rng.choice(['hold', 'hold', 'issue']))
+        for _ in range(rng.choice([1, 1, 1, 2, 3])): self.act(rng.choice(['pause', 'pause', 'pause', 'stop', 'stop', 'resume', 'scrub']))
+        if rng.random() < .15: self.act('finish')
+        if rng.random() < .9: self.act('sync')
+        for _ in range(rng.choice([0, 1, 1, 2, 3, 5])):
+            self.act(rng.choice(['walk', 'issue', 'hold', 'land', 'sync', 'sync', 'finish', 'status', 'status', 'errors', 'write', 'rot',
+                                 'destroy', 'snap']))
+        if rng.random() < .3: self.drain()
+        for _ in range(rng.choice([1, 1, 1, 2])): self.act(rng.choice(['resume', 'resume', 'scrub', 'scrub', 'scrub', 'stop', 'pause']))
+        if rng.random() < .9: self.act('sync')
+        for _ in range(rng.choice([0, 1, 2, 3])): self.act(rng.choice(['walk', 'walkall', 'status', 'land', 'issue', 'sync', 'finish']))
+
+    def late(self):
+        """Syncs with a piece waiting or in flight until a checkpoint is due, and some lines while it is."""
+        rng, scan = self.rng, self.pool.scan
+        self.scrub()
+        self.act(rng.choice(['walk', 'walk', 'walkall']))
+        if rng.random() < .4: self.act('hold')
+        for _ in range(rng.choice([1, 2, 3, min(scan.every, 5)])):
+            if rng.random() < .3: self.act('write')
+            if rng.random() < .3: self.tasks(2)
+            self.act('sync')
+        for _ in range(rng.choice([1, 2, 3, 4])):
+            self.act(rng.choice(['walk', 'walk', 'walkall', 'issue', 'hold', 'land', 'status', 'sync', 'snap', 'destroy', 'swap', 'pause',
+                                 'resume']))
+        if rng.random() < .4: self.act('finish')
+        elif rng.random() < .7: self.drain()
+        if rng.random() < .7: self.act('walkall')
+
     def start(self):
         """Mostly some heads with objects, and a scrub."""
         rng = self.rng
@@ -267,8 +327,9 @@ class Gen:
             self.act('sync')
 
     def weights(self, profile):
-        w = dict(zip(ACTS, profile))
+        w = dict(zip(ACTS, profile)) | dict.fromkeys(HALTS, 0)
         p, scan = self.pool, self.pool.scan
+        if CHECKPOINTS: self.halts(w)
         heads = p.sets.heads()
         if not heads:
             for k in ('make', 'write', 'read', 'snap', 'swap', 'destroy'): w[k] /= 4
@@ -277,7 +338,7 @@ class Gen:
         if not p.sets.snapshots(): w['clone'] /= 3
         if p.tasks: w['sync'] *= 1+len(p.tasks)/3
         if not p.sets.live(): w['rot'] /= 5
-        if scan.status == 'none': w['errors'] /= 5
+        if scan.run.status == 'none': w['errors'] /= 5
         if not scan.running:
             for k in ('walk', 'walkall', 'issue', 'hold', 'land', 'vdev'): w[k] /= 6
             w['scrub'] *= 2
@@ -293,9 +354,21 @@ class Gen:
             w['hold'] /= 5
         if len(scan.waiting) == scan.limit: w['walk'] /= 3
         if not scan.flight: w['land'] /= 8
-        if not scan.todo and scan.at is None: w['walk'] /= 4
+        if scan.run.walked: w['walk'] /= 4
         if scan.complete(): w['sync'] *= 2
         return w
+
+    def halts(self, w):
+        """The weights of a pause, of going on, and of what a checkpoint that is due waits for."""
+        scan = self.pool.scan
+        w.update(zip(HALTS, [.3, .3, .3] if not scan.running else [.3, 5, 1] if scan.paused else [1.5, .3, .8]))
+        if scan.paused: w['scrub'] *= 6
+        if any(self.queued(h.encode()) for h in HALTS): w['sync'] *= 2
+        if scan.due(self.pool.txg-1):
+            w['finish'] *= 2
+            if scan.waiting: w['issue'] *= 2
+            if scan.flight: w['land'] *= 2
+            elif not scan.waiting: w['sync'] *= 2
 
     def more(self, name, length):
         rng = self.rng
@@ -304,8 +377,9 @@ class Gen:
             if r < .07: self.held()
             elif r < (.2 if name == 'tree' else .1): self.shaken()
             elif r < (.3 if name == 'tree' else .12): self.chased()
+            if CHECKPOINTS and rng.random() < .12: rng.choice([self.parted, self.parted, self.halted, self.late])()
             w = self.weights(PROFILES[name])
-            self.act(rng.choices(ACTS, [w[k] for k in ACTS])[0])
+            self.act(rng.choices(ACTS+HALTS, [w[k] for k in ACTS+HALTS])[0])
 
 
 def gen(rng):
@@ -328,12 +402,13 @@ def gen(rng):
         if rng.random() < .01 and len(im) > 0: im[rng.randrange(min(len(im), 4096))] = 1
         imgs.append(im)
     end = max(min(len(i)//512 for i in imgs), start+32)
-    g = Gen(rng, Pool(idn, W, limit, start, end, [bytearray(end*512) for _ in range(W)]))
+    every = rng.choice([1, 1, 2, 2, 3, 4, 1000, 1000]) if CHECKPOINTS else None
+    g = Gen(rng, Pool(idn, W, limit, every, start, end, [bytearray(end*512) for _ in range(W)]))
     g.start()
     g.more(profile, rng.choice([0, 5, 10, 20, 40, 40, 60, 90]))
     if rng.random() < .3: g.act('list')
     if rng.random() < .5: g.act('status')
-    L = [b'pool %d %d %d %d %d' % (idn, W, limit, rng.choice([1, 4, 1000]), B)]+g.lines
+    L = [b'pool %d %d %d %d %d' % (idn, W, limit, every or rng.choice([1, 4, 1000]), B)]+g.lines
     spoiled = rng.random() < .12
     if spoiled: spoil(rng, L)
     return decorate(rng, L), imgs, g.pool, spoiled

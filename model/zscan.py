@@ -7,6 +7,8 @@
   zscan.py --check SEED COUNT       the model alone: what has to hold, looked at after each step of every script
   zscan.py --show SEED              one script and the model's answer
   zscan.py --rows                   worked examples in the model alone
+
+With CHECKPOINTS=1 in the environment EVERY counts, and scripts have the lines pause, resume and stop.
 """
 import collections, os, random, shutil, subprocess, sys, tempfile
 sys.dont_write_bytecode = True  # the folder keeps its files alone
@@ -149,7 +151,7 @@ def stats(seed, count):
 
 
 def check(seed, count):
-    """The model alone: what has to hold, asserted after each turn, task, issue and batch that landed."""
+    """The model alone: what has to hold, asserted after each turn, task, sync, issue and batch that landed."""
     ran = steps = 0
     for k in range(seed, seed+count):
         words, names, s, imgs, _, _ = case(k, '/tmp')
