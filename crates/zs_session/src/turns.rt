@@ -54,7 +54,13 @@ pub fn turn(pool: &mut Pool, by: u8) -> Result<Turned, BayFault>
     match pool.walk(by) {
         Ok(turn) => Ok(outcome_of(turn)),
         Err(ScanFault::Full) => Ok(Turned::Full),
-        Err(_) => Err(BayFault::Memory),
+        Err(
+            ScanFault::Memory
+            | ScanFault::ScanBusy
+            | ScanFault::NoScan
+            | ScanFault::Paused
+            | ScanFault::NotPaused,
+        ) => Err(BayFault::Memory),
     }
 }
 
