@@ -21,6 +21,9 @@ verb_named word =
     else (if pointwise ◌==◌ word (codes "read") then Ok verbs.Read
     else (if pointwise ◌==◌ word (codes "sync") then Ok verbs.Sync
     else (if pointwise ◌==◌ word (codes "scrub") then Ok verbs.Scrub
+    else (if pointwise ◌==◌ word (codes "pause") then Ok verbs.Pause
+    else (if pointwise ◌==◌ word (codes "resume") then Ok verbs.Resume
+    else (if pointwise ◌==◌ word (codes "stop") then Ok verbs.Stop
     else (if pointwise ◌==◌ word (codes "walk") then Ok verbs.Walk
     else (if pointwise ◌==◌ word (codes "issue") then Ok verbs.Issue
     else (if pointwise ◌==◌ word (codes "hold") then Ok verbs.Hold
@@ -30,7 +33,7 @@ verb_named word =
     else (if pointwise ◌==◌ word (codes "errors") then Ok verbs.Errors
     else (if pointwise ◌==◌ word (codes "list") then Ok verbs.List
     else (if pointwise ◌==◌ word (codes "status") then Ok verbs.Status
-    else Err why.Word)))))))))))))))))))
+    else Err why.Word))))))))))))))))))))))
 
 -- behind `scrub` no line has a word
 unfoldable pub followed_verb : Verb → Result Verb Why

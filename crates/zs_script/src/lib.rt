@@ -39,8 +39,3 @@ pub use reply::{
 };
 pub use script::parse;
 pub use texts::text;
-
-#[cfg(test)]
-mod reply_tests;
-#[cfg(test)]
-mod tests;

@@ -19,6 +19,9 @@ pub(crate) enum Verb {
     Read,
     Sync,
     Scrub,
+    Pause,
+    Resume,
+    Stop,
     Walk,
     Issue,
     Hold,
@@ -88,6 +91,12 @@ fn named(word: &[u8]) -> Result<Verb, Why>
         Ok(Verb::Sync)
     } else if word == b"scrub".as_slice() {
         Ok(Verb::Scrub)
+    } else if word == b"pause".as_slice() {
+        Ok(Verb::Pause)
+    } else if word == b"resume".as_slice() {
+        Ok(Verb::Resume)
+    } else if word == b"stop".as_slice() {
+        Ok(Verb::Stop)
     } else if word == b"walk".as_slice() {
         Ok(Verb::Walk)
     } else if word == b"issue".as_slice() {

@@ -20,6 +20,3 @@ pub mod txg;
 pub use staged::{StagedEntry, Staging};
 pub use task::Task;
 pub use txg::OpenTxg;
-
-#[cfg(test)]
-mod tests;

@@ -39,4 +39,10 @@ pub enum Task {
     },
     /// Starts a scrub, or resumes a paused one.
     Scrub,
+    /// Pauses the scrub.
+    Pause,
+    /// Resumes the paused scrub.
+    Resume,
+    /// Cancels the scan, paused or not.
+    Stop,
 }
