@@ -28,6 +28,3 @@ mod tree;
 pub use fault::SpaceFault;
 pub use space::Space;
 pub use taken::{Freed, Taken};
-
-#[cfg(test)]
-mod tests;

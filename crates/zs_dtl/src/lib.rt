@@ -16,6 +16,3 @@ pub mod dirt;
 mod steps;
 
 pub use dirt::Dirt;
-
-#[cfg(test)]
-mod tests;

@@ -128,6 +128,3 @@ impl Blocks for Flat {
 
     ghost in_order = { λ f. f.ordered };
 }
-
-#[cfg(test)]
-mod tests;

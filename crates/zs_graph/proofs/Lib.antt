@@ -13,7 +13,6 @@ pub mod ApplyMade
 pub mod RemovedAt
 pub mod PutAt
 pub mod DestroyMade
-pub mod Example
 pub mod Searches
 pub mod Births
 pub mod Places
@@ -26,7 +25,6 @@ pub mod SwapTree
 pub mod DestroyTree
 pub mod KeyCases
 pub mod Replacing
-pub mod FreeingNone
 pub mod FreedItems
 pub mod FreeingDestroy
 pub mod FreeingApply
@@ -37,4 +35,3 @@ pub mod Found
 pub mod ApplyItems
 pub mod DestroyItems
 pub mod NextBlocks
-pub mod Roots

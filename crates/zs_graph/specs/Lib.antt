@@ -5,4 +5,3 @@ pub mod Refusals
 pub mod Made
 pub mod Frees
 pub mod Freeing
-pub mod Roots

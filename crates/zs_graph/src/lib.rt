@@ -25,8 +25,3 @@ mod refusals;
 pub use fault::GraphFault;
 pub use freed::Freed;
 pub use graph::Graph;
-
-#[cfg(test)]
-mod frees;
-#[cfg(test)]
-mod tests;

@@ -26,6 +26,3 @@ pub use boxed::Boxed;
 pub use dataset::{DsId, DsName, Name};
 pub use key::Key;
 pub use seq::Seq;
-
-#[cfg(test)]
-mod tests;

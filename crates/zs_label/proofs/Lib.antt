@@ -7,4 +7,3 @@ pub mod Gates
 pub mod Puts
 pub mod Reading
 pub mod Others
-pub mod TestSets

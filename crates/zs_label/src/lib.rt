@@ -31,6 +31,3 @@ pub use label::{Label, label_write};
 pub use laws::{rest_law, spelling_law};
 pub use put::{close_slot, fill_slot, open_slot, put_label};
 pub use slot::{has_other_version, read_slot};
-
-#[cfg(test)]
-mod tests;

@@ -23,6 +23,3 @@ pub use children::Children;
 pub use fault::LaneFault;
 pub use lane::Lane;
 pub use mark::{Mark, Summed};
-
-#[cfg(test)]
-mod tests;

@@ -17,6 +17,3 @@ pub mod ledger;
 
 pub use entry::{CopyResult, Entry};
 pub use ledger::Ledger;
-
-#[cfg(test)]
-mod tests;

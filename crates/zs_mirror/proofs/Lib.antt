@@ -6,4 +6,3 @@ mod ReadCopies
 mod CheckedReads
 mod Repairs
 mod Verdicts
-mod ThreeLanes

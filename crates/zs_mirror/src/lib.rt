@@ -30,6 +30,3 @@ pub use checks::check;
 pub use fault::ReadFault;
 pub use read::read_any;
 pub use write::{write_all, write_block};
-
-#[cfg(test)]
-mod tests;

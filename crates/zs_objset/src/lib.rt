@@ -20,6 +20,3 @@ pub use above::needed;
 pub use block::{CommitFault, Staged, StagedBlock};
 pub use bytes::block_bytes;
 pub use staged::staged_blocks;
-
-#[cfg(test)]
-mod tests;

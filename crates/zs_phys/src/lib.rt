@@ -41,6 +41,3 @@ pub use phys::{At, Phys, Status};
 pub use scope::{Kind, Scope};
 pub use step::Step;
 pub use todos::{Todo, Todos};
-
-#[cfg(test)]
-mod tests;

@@ -18,6 +18,3 @@ pub mod waiting;
 
 pub use plain::PlainQueue;
 pub use waiting::{PutFault, Waiting};
-
-#[cfg(test)]
-mod tests;

@@ -20,6 +20,3 @@ pub mod set;
 
 pub use laws::{joined_law, same_set_law};
 pub use set::{Interval, TxgSet};
-
-#[cfg(test)]
-mod tests;

@@ -22,8 +22,3 @@ pub use fault::BpFault;
 pub use laws::pointer_law;
 pub use pointer::bp_write;
 pub use reading::bp_read;
-
-#[cfg(test)]
-mod reading_tests;
-#[cfg(test)]
-mod tests;

@@ -9,4 +9,3 @@ pub mod Passed
 pub mod Descents
 pub mod Subtrees
 pub mod Left
-pub mod Examples

@@ -1,4 +1,3 @@
 pub mod Walking
 pub mod Left
 pub mod Laws
-pub mod Examples

@@ -20,6 +20,3 @@ pub mod turns;
 
 pub use datasets::Datasets;
 pub use turns::{advance, visit};
-
-#[cfg(test)]
-mod tests;

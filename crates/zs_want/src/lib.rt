@@ -18,6 +18,3 @@ pub mod picking;
 
 pub use filter::{Want, in_scope};
 pub use picking::{Order, Pick, Span, pick_of};
-
-#[cfg(test)]
-mod tests;

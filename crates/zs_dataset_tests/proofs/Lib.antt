@@ -1,0 +1,3 @@
+pub mod OneHead
+pub mod Examples
+pub mod Roots

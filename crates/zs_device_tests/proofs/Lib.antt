@@ -1,0 +1,2 @@
+pub mod TestSets
+pub mod ThreeLanes

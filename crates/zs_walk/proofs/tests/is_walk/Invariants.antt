@@ -1,5 +1,0 @@
-use Rattle.zs_walk.specs.Walking.{MayWalk}
-use Rattle.zs_walk.proofs.tests.is_walk.Given as goal
-
-abbrev pub invariant-loop-step : goal.invariant-loop-step
-invariant-loop-step g l = MayWalk (g.G.Datasets.datasets l.graph) l.scope l.phys

@@ -1,7 +1,0 @@
-use Rattle.std.proofs.Common.{refl}
-use Rattle.zs_walk.specs.Left.{turns_left}
-use Rattle.zs_walk.proofs.tests.turns_at_start.Goals as goal
-
-pub returns : goal.returns
-unfolding turns_left
-returns c = refl
