@@ -1,5 +1,6 @@
 -- A scan that never ran is that of any datasets.
 use Rattle.std.proofs.Common.{◌≡◌, ◌≤◌, ℕ, zero, suc, List, [], replicate, refl, sym, subst, inl, inr, arith}
+use Rattle.std.specs.Prelude.{Result, Ok, Err, IfOk}
 use Rattle.zs_ids.specs.Graph.{Graph, Has}
 use Rattle.zs_ids.specs.GraphValid.{Room, Valid}
 use Rattle.zs_ranges.specs.declared.set.Interval.{Interval}
@@ -34,10 +35,16 @@ idle_sound g h devices width = record {
 }
 
 -- and so does such a scan
-pub blank_own : (v : ScanView) (devices width limit every ledger_room : ℕ) → v ≡ blank_scan devices width limit every ledger_room → (room : Room) (g : Graph) (n h : ℕ) → n ≤ h → Valid room g n → IsScanOf room g n h v
+blank_own : (v : ScanView) (devices width limit every ledger_room : ℕ) → v ≡ blank_scan devices width limit every ledger_room → (room : Room) (g : Graph) (n h : ℕ) → n ≤ h → Valid room g n → IsScanOf room g n h v
 blank_own v devices width limit every ledger_room is room g n h early valid = subst (λ (x : ScanView). IsScanOf room g n h x) (sym is) (record {
   covered = record { early = early; valid = valid; sound = idle_sound g h devices width; covers = record { covered = λ claim d e p home piece in_range. cc } };
   stored = record { early = early; valid = valid; sound = idle_sound g h devices width; covers = record { covered = λ claim d e p home piece in_range. cc } };
   live = record { waiting = λ e none. absurd none; flying = λ b i none. absurd none };
   in_room = λ b i none. absurd none;
 })
+
+-- where it could be made
+pub blank_if : {E : Type 0} (r : Result ScanView E) (devices width limit every : ℕ) → IfOk r (λ s. s ≡ blank_scan devices width limit every s.room)
+    → IfOk r (λ s. (room : Room) (g : Graph) (n h : ℕ) → n ≤ h → Valid room g n → IsScanOf room g n h s)
+blank_if (Ok s) devices width limit every is = blank_own s devices width limit every s.room is
+blank_if (Err why) devices width limit every none = tt

@@ -23,8 +23,8 @@ pub mod Freeings
 pub mod Putting
 pub mod AllFly
 pub mod OfItems
+pub mod Opens
 pub mod Ends
 pub mod Changed
 pub mod Handling
-pub mod Events
 pub mod FreedPieces

@@ -31,16 +31,16 @@ is_scrub Resilver = false
 abbrev pub no_scope : ℕ → ℕ → Scope
 no_scope devices width = record { kind = Idle; min = 0; max = 0; width = width; dirty0 = replicate devices [] }
 
--- a scan that never ran
-abbrev pub blank_scan : ℕ → ℕ → ℕ → ℕ → ℕ → ScanView
-blank_scan devices width limit every room = record {
-  scope = no_scope devices width;
-  run = idle;
-  kept = idle;
-  stored = 0;
-  saved = 0;
+-- a scan as it was kept: both states are the kept one, all its entries are stored, and nothing waits or flies
+abbrev pub opened_scan : Scope → Phys → List Entry → ℕ → ℕ → ℕ → ℕ → ScanView
+opened_scan scope kept entries limit saved every room = record {
+  scope = scope;
+  run = kept;
+  kept = kept;
+  stored = length entries;
+  saved = saved;
   every = every;
-  checked = [];
+  checked = entries;
   room = room;
   waiting = [];
   limit = limit;
@@ -48,6 +48,10 @@ blank_scan devices width limit every room = record {
   flight = [];
   batches = 0;
 }
+
+-- a scan that never ran
+abbrev pub blank_scan : ℕ → ℕ → ℕ → ℕ → ℕ → ScanView
+blank_scan devices width limit every room = opened_scan (no_scope devices width) idle [] limit 0 every room
 
 -- as many sets as these, each of them empty
 abbrev pub emptied : List (List Interval) → List (List Interval)

@@ -1,5 +1,5 @@
 -- What a turn of the walk makes of a scan.
-use Rattle.std.specs.Prelude.{◌≡◌, ◌<◌, ◌&&◌, nat_le, true, false, not, List, [], ◌∷◌, length, Option, Some, None, is_some, if◌then◌else◌}
+use Rattle.std.specs.Prelude.{◌≡◌, ◌≢◌, ◌<◌, ◌-◌, ◌&&◌, ℕ, Bool, nat_le, true, false, not, List, [], ◌∷◌, length, Option, Some, None, is_some, if◌then◌else◌}
 use Rattle.zs_ids.specs.declared.block.Bp.{Bp}
 use Rattle.zs_ids.specs.declared.block.Item.{Item}
 use Rattle.zs_ids.specs.declared.block.Place.{Place}
@@ -10,6 +10,7 @@ use Rattle.zs_phys.specs.Scope.{in_scope}
 use Rattle.zs_phys.specs.declared.phys.Status.TheVariants.{Scanning}
 use Rattle.zs_phys.specs.Turn.{Comes, advanced}
 use Rattle.zs_queue.specs.Waiting.{with_item}
+use Rattle.zs_walk.specs.Walking.{runs}
 use Rattle.zs_scan.specs.declared.batch.Turn.{Turn}
 use Rattle.zs_scan.specs.declared.batch.Turn.TheVariants as turns
 use Rattle.zs_scan.specs.View.{ScanView, is_done, MarksAs}
@@ -75,9 +76,26 @@ pub record Walked (g : Graph) (old : ScanView) (turn : Turn) (new : ScanView) : 
   pub becomes : new.run ≡ advanced g old.scope old.run step
   pub puts : PutIf old (item_put old step) (record new { run = old.run })
 
--- a turn can't be made: it would put an item, and as many wait as may
-pub record IsFull (g : Graph) (v : ScanView) : Type 0 where
+-- a checkpoint is due: a scan is running, and so many transaction groups were synced since the last checkpoint, or since the
+-- start. Where none is running, or it is paused, no turn comes that this could refuse
+abbrev pub is_due : ℕ → ScanView → Bool
+is_due synced v = runs v.run.status && nat_le v.every (synced - v.saved)
+
+-- a turn would put an item
+abbrev pub WouldPut : ScanView → Step → Type 0
+WouldPut v step = is_some (item_put v step) ≡ true
+
+-- a turn is not made because a checkpoint is due
+pub record IsDraining (g : Graph) (synced : ℕ) (v : ScanView) : Type 0 where
   pub step : Step
   pub comes : Comes g v.scope v.run step
-  pub puts : is_some (item_put v step) ≡ true
+  pub some : turn_of step ≢ turns.Nothing
+  pub due : is_due synced v ≡ true
+
+-- a turn can't be made: it would put an item, and as many wait as may; and no checkpoint is due
+pub record IsFull (g : Graph) (synced : ℕ) (v : ScanView) : Type 0 where
+  pub in_time : is_due synced v ≡ false
+  pub step : Step
+  pub comes : Comes g v.scope v.run step
+  pub puts : WouldPut v step
   pub none_left : length v.waiting ≡ v.limit

@@ -46,6 +46,8 @@ pub enum ScanFault {
     NotPaused,
     /// As many pieces wait as the limit allows.
     Full,
+    /// A checkpoint is due.
+    Draining,
     /// Memory was wanting.
     Memory,
 }

@@ -61,6 +61,3 @@ pub mod walking;
 pub use batch::{Batch, ScanFault, Turn};
 pub use scan::Scan;
 pub use walking::item_of;
-
-#[cfg(test)]
-mod tests;

@@ -4,7 +4,9 @@ ghost use Rattle.std.specs.Prelude.{◌≡◌, ◌≤◌, ◌<◌, ◌+◌, ◌=
 ghost use Rattle.zs_ids.specs.Graph.{Graph, IsLive};
 ghost use Rattle.zs_ids.specs.GraphValid.{Room, Valid};
 ghost use Rattle.zs_ids.specs.declared.block.Piece.{Piece};
+ghost use Rattle.zs_cover.specs.Laws.{IsCovered};
 ghost use Rattle.zs_ledger.specs.Entry.{HaveCopies};
+ghost use Rattle.zs_ledger.specs.Kept.{has_piece};
 ghost use Rattle.zs_phys.specs.Handlers.{idle};
 ghost use Rattle.zs_phys.specs.declared.scope.Kind.TheVariants.{Idle};
 ghost use Rattle.zs_phys.specs.declared.phys.Status.TheVariants.{Scanning};
@@ -12,8 +14,8 @@ ghost use Rattle.zs_queue.specs.Waiting.{lowest, is_of};
 ghost use Rattle.zs_walk.specs.Walking.{runs};
 ghost use Rattle.zs_scan.specs.View.{ScanView, mark_of, is_flying, is_done};
 ghost use Rattle.zs_scan.specs.Covered.{AllAreChecked, AreLive, IsScanOf, Keeps, MayAllBeChecked};
-ghost use Rattle.zs_scan.specs.Kept.{IsOrderly};
-ghost use Rattle.zs_scan.specs.Steps.{blank_scan, is_busy, after_start, scrub_started, with_paused, Taken, IsVerdict, Judged, Freed, IsComplete, IsDrained, finished, checkpointed, still_flying};
+ghost use Rattle.zs_scan.specs.Kept.{AreOnce, IsOrderly};
+ghost use Rattle.zs_scan.specs.Steps.{blank_scan, opened_scan, is_busy, after_start, scrub_started, with_paused, Taken, IsVerdict, Judged, Freed, IsComplete, IsDrained, finished, checkpointed, still_flying};
 
 use crate::batch::{Batch, ScanFault};
 use crate::landing::{land_all, remove_batch};
@@ -100,24 +102,51 @@ impl Scan {
         ensures fresh { IfOk result (λ s. (room : Room) (g : Graph) (n h : ℕ) → n ≤ h → Valid room g n → IsScanOf room g n h s) }
     {
         let dirty0 = empty_sets(alloc, devices)?;
-        let run = Phys::idle(alloc)?;
         let kept = Phys::idle(alloc)?;
+        let scope = Scope {
+            kind: Kind::Idle,
+            min: 0,
+            max: 0,
+            width,
+            dirty0,
+        };
+        let queue = PlainQueue::new(alloc, limit);
+        Scan::opened(alloc, scope, kept, Ledger::new(alloc), queue, 0, every)
+    }
+
+    /// A scan as it was kept, with its entries, each of another piece and with the copies of a mirror of the scope's
+    /// width: it walks on from the kept state, all its entries are stored, the last checkpoint was made in the transaction
+    /// group `saved`, and the next one is due after `every` more. Nothing waits or flies. It is that of the datasets which
+    /// the kept state covers with these entries.
+    pub fn opened(
+        alloc: Global,
+        scope: Scope,
+        kept: Phys,
+        ledger: Ledger,
+        queue: PlainQueue,
+        saved: u64,
+        every: u32,
+    ) -> Result<Scan, AllocError>
+        requires empty { ⟦<PlainQueue as Waiting>⟧.items queue ≡ [] }
+        requires once { AreOnce ledger.entries }
+        requires copies { HaveCopies scope.width ledger.entries }
+        ensures opened { IfOk result (λ s. s ≡ opened_scan scope kept ledger.entries (⟦<PlainQueue as Waiting>⟧.limit_of queue) saved every ledger.room) }
+        ensures keeps { IfOk result (λ s. (room : Room) (g : Graph) (n h : ℕ)
+            → IsCovered room g n h scope kept (λ p. has_piece ledger.entries p) → IsScanOf room g n h s) }
+    {
+        let mut run = Phys::idle(alloc)?;
+        run.copy_from(&kept);
+        let stored = ledger.len();
         Ok(Scan {
             alloc,
-            scope: Scope {
-                kind: Kind::Idle,
-                min: 0,
-                max: 0,
-                width,
-                dirty0,
-            },
+            scope,
             run,
             kept,
-            stored: 0,
-            saved: 0,
+            stored,
+            saved,
             every,
-            ledger: Ledger::new(alloc),
-            queue: PlainQueue::new(alloc, limit),
+            ledger,
+            queue,
             marks: Marks::new(alloc),
             flight: VecDeque::new(alloc),
             batches: 0,
