@@ -49,12 +49,12 @@ saves_if t old new false running drained done rest = inr (λ at. true≢false (s
 
 -- a scan that may make a checkpoint keeps its limit, its width and what is in flight
 saved_rest : (t : ℕ) (old new : ScanView) → SavesIfDrained t old new → KeepsRest old new
-saved_rest t old new (inl made) = record { limit = ap (λ (v : ScanView). v.limit) made.1; width = ap (λ (v : ScanView). v.scope.width) made.1; flight = ap (λ (v : ScanView). v.flight) made.1 }
-saved_rest t old new (inr none) = record { limit = ap (λ (v : ScanView). v.limit) none.1; width = ap (λ (v : ScanView). v.scope.width) none.1; flight = ap (λ (v : ScanView). v.flight) none.1 }
+saved_rest t old new (inl made) = record { limit = ap (λ (v : ScanView). v.limit) made.1; every = ap (λ (v : ScanView). v.every) made.1; width = ap (λ (v : ScanView). v.scope.width) made.1; flight = ap (λ (v : ScanView). v.flight) made.1 }
+saved_rest t old new (inr none) = record { limit = ap (λ (v : ScanView). v.limit) none.1; every = ap (λ (v : ScanView). v.every) none.1; width = ap (λ (v : ScanView). v.scope.width) none.1; flight = ap (λ (v : ScanView). v.flight) none.1 }
 
 -- and so does one that ends
 pub ended_rest : (t : ℕ) (old new : ScanView) (b : Bool) → EndsWith t old b new → KeepsRest old new
-ended_rest t old new true ends = record { limit = ap (λ (v : ScanView). v.limit) (ends.done refl); width = ap (λ (v : ScanView). v.scope.width) (ends.done refl); flight = ap (λ (v : ScanView). v.flight) (ends.done refl) }
+ended_rest t old new true ends = record { limit = ap (λ (v : ScanView). v.limit) (ends.done refl); every = ap (λ (v : ScanView). v.every) (ends.done refl); width = ap (λ (v : ScanView). v.scope.width) (ends.done refl); flight = ap (λ (v : ScanView). v.flight) (ends.done refl) }
 ended_rest t old new false ends = saved_rest t old new (ends.saves refl)
 
 -- a scan ends where it is complete, and else makes a checkpoint where it may
@@ -74,6 +74,15 @@ ended_never t old new true ends complete =
     let c : IsComplete (finished old) = subst IsComplete (ends.done refl) complete in
     let never : Finished ≡ Scanning = c.scans in cc
 ended_never t old new false ends complete = saved_never t old new (λ was. true≢false (sym (ends.complete.1 was))) (ends.saves refl) complete
+
+-- where nothing waits or flies, a scan that goes on has made a checkpoint
+pub ended_saved : (t : ℕ) (old new : ScanView) (b : Bool) → EndsWith t old b new → IsDrained old → runs new.run.status ≡ true → new.saved ≡ t
+ended_saved t old new true ends was running =
+    let over : runs Finished ≡ true = ap (λ (v : ScanView). runs v.run.status) (sym (ends.done refl)) ∙ running in cc
+ended_saved t old new false ends was running = elim (ends.saves refl) [
+  | inl made ↦ ap (λ (v : ScanView). v.saved) made.1
+  | inr none ↦ absurd (none.0 (record { scans = scanning old.run.status (ap (λ (v : ScanView). runs v.run.status) (sym none.1) ∙ running); drained = was }))
+]
 
 -- the scope of a scan ends by the transaction group after the one whose tasks come next
 pub ends_by : (room : Room) (g : Graph) (n t : ℕ) (v : ScanView) → IsScanOf room g n t v → v.scope.max ≤ t + 1

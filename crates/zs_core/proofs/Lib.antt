@@ -3,7 +3,6 @@ pub mod Judged
 pub mod Due
 pub mod Flying
 pub mod Halting
-pub mod Lines
 pub mod Told
 pub mod PutEntries
 pub mod PutFormed
@@ -25,7 +24,7 @@ pub mod Blank
 pub mod RunsOn
 pub mod TaskRan
 pub mod TaskKept
-pub mod Complete
+pub mod Drained
 pub mod Ended
 pub mod Scanned
 pub mod Finding

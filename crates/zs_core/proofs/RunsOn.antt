@@ -18,15 +18,15 @@ use Rattle.zs_core.proofs.Carried.{carried}
 
 -- what two changes of a scan keep, both keep
 pub rest_both : (u v w : ScanView) → KeepsRest u v → KeepsRest v w → KeepsRest u w
-rest_both u v w first second = record { limit = second.limit ∙ first.limit; width = second.width ∙ first.width; flight = second.flight ∙ first.flight }
+rest_both u v w first second = record { limit = second.limit ∙ first.limit; every = second.every ∙ first.every; width = second.width ∙ first.width; flight = second.flight ∙ first.flight }
 
 -- where the walk's state and the one that is kept alone changed
 pub rest_at_run : (v w : ScanView) → w ≡ record v { run = w.run; kept = w.kept } → KeepsRest v w
-rest_at_run v w is = record { limit = ap (λ (x : ScanView). x.limit) is; width = ap (λ (x : ScanView). x.scope.width) is; flight = ap (λ (x : ScanView). x.flight) is }
+rest_at_run v w is = record { limit = ap (λ (x : ScanView). x.limit) is; every = ap (λ (x : ScanView). x.every) is; width = ap (λ (x : ScanView). x.scope.width) is; flight = ap (λ (x : ScanView). x.flight) is }
 
 -- where pieces were freed
 pub rest_at_freed : (v w : ScanView) (pieces : List Piece) → w ≡ record v { waiting = without v.waiting pieces; marks = w.marks; room = w.room } → KeepsRest v w
-rest_at_freed v w pieces is = record { limit = ap (λ (x : ScanView). x.limit) is; width = ap (λ (x : ScanView). x.scope.width) is; flight = ap (λ (x : ScanView). x.flight) is }
+rest_at_freed v w pieces is = record { limit = ap (λ (x : ScanView). x.limit) is; every = ap (λ (x : ScanView). x.every) is; width = ap (λ (x : ScanView). x.scope.width) is; flight = ap (λ (x : ScanView). x.flight) is }
 
 -- all stays where nothing ran
 pub runs_none : (t : ℕ) (g : Graph) (v : ScanView) (items : List Item) → RunsOn t g v items g v items
@@ -36,7 +36,7 @@ runs_none t g v items = record {
   scanned = λ room scan. scan;
   born = λ b. b;
   fewer = λ i h. h;
-  rest = record { limit = refl; width = refl; flight = refl };
+  rest = record { limit = refl; every = refl; width = refl; flight = refl };
 }
 
 -- what stays true over some tasks and over others stays true over both

@@ -14,9 +14,10 @@ use Rattle.zs_core.specs.Kept.{Facts, born_by}
 use Rattle.zs_core.specs.Placed.{room_of}
 use Rattle.zs_machine.specs.Shapes.{data_start}
 
--- the limit, the width and the end of the scope of a scan are those of another
+-- the limit, the groups between checkpoints, the width and the end of the scope of a scan are those of another
 pub record IsAlike (old new : ScanView) : Type 0 where
   pub limit : new.limit ≡ old.limit
+  pub every : new.every ≡ old.every
   pub width : new.scope.width ≡ old.scope.width
   pub max : new.scope.max ≡ old.scope.max
 
@@ -36,17 +37,18 @@ with_scan p v f same keeps = record {
   scan = keeps (data_start p.shape.blocks) f.blocks f.scan;
   range = let low : p.scan.scope.max ≤ p.applied + 1 = f.range in let is : v.scope.max ≡ p.scan.scope.max = same.max in omega (arith, low, is);
   may_wait = same.limit ∙ f.may_wait;
+  due = same.every ∙ f.due;
   at_stage = f.at_stage;
   limit = f.limit;
 }
 
 -- a turn changes none of them
 put_alike : (old new : ScanView) (item : Option Item) → PutIf old item new → IsAlike old new
-put_alike old new None is = record { limit = ap (λ (v : ScanView). v.limit) is; width = ap (λ (v : ScanView). v.scope.width) is; max = ap (λ (v : ScanView). v.scope.max) is }
-put_alike old new (Some item) put = record { limit = ap (λ (v : ScanView). v.limit) put.rest; width = ap (λ (v : ScanView). v.scope.width) put.rest; max = ap (λ (v : ScanView). v.scope.max) put.rest }
+put_alike old new None is = record { limit = ap (λ (v : ScanView). v.limit) is; every = ap (λ (v : ScanView). v.every) is; width = ap (λ (v : ScanView). v.scope.width) is; max = ap (λ (v : ScanView). v.scope.max) is }
+put_alike old new (Some item) put = record { limit = ap (λ (v : ScanView). v.limit) put.rest; every = ap (λ (v : ScanView). v.every) put.rest; width = ap (λ (v : ScanView). v.scope.width) put.rest; max = ap (λ (v : ScanView). v.scope.max) put.rest }
 
 pub walked_alike : (g : Graph) (old new : ScanView) (turn : Turn) → Walked g old turn new → IsAlike old new
-walked_alike g old new turn w = let a = put_alike old (record new { run = old.run }) (item_put old w.step) w.puts in record { limit = a.limit; width = a.width; max = a.max }
+walked_alike g old new turn w = let a = put_alike old (record new { run = old.run }) (item_put old w.step) w.puts in record { limit = a.limit; every = a.every; width = a.width; max = a.max }
 
 -- nor does a batch that is taken
 pub taken_alike : (old new : ScanView) (b : Batch) → (1 ≤ length b.items → Taken old b new) → (length b.items ≡ 0 → new ≡ record old { room = new.room }) → IsAlike old new
@@ -55,8 +57,8 @@ taken_alike old new b taken none = by b.items refl
     by : (items : List Item) → b.items ≡ items → IsAlike old new
     by [] is =
         let e = none (ap (λ (l : List Item). length l) is) in
-        record { limit = ap (λ (v : ScanView). v.limit) e; width = ap (λ (v : ScanView). v.scope.width) e; max = ap (λ (v : ScanView). v.scope.max) e }
+        record { limit = ap (λ (v : ScanView). v.limit) e; every = ap (λ (v : ScanView). v.every) e; width = ap (λ (v : ScanView). v.scope.width) e; max = ap (λ (v : ScanView). v.scope.max) e }
     by (i ∷ is) some =
         let many : length b.items ≡ length (i ∷ is) = ap (λ (l : List Item). length l) some in
         let e = (taken (omega (arith, many))).rest in
-        record { limit = ap (λ (v : ScanView). v.limit) e; width = ap (λ (v : ScanView). v.scope.width) e; max = ap (λ (v : ScanView). v.scope.max) e }
+        record { limit = ap (λ (v : ScanView). v.limit) e; every = ap (λ (v : ScanView). v.every) e; width = ap (λ (v : ScanView). v.scope.width) e; max = ap (λ (v : ScanView). v.scope.max) e }

@@ -1,6 +1,6 @@
 -- What stays true where a task that is not refused runs.
 use Rattle.std.proofs.Common.{◌≡◌, ◌≤◌, ◌∙◌, ℕ, Bool, true, false, List, [], ◌∷◌, Option, refl, sym, ap, subst, arith, filter, map, not}
-use Rattle.std.specs.Prelude.{Some, Result, Ok, Err, is_err, OnOk, ◌||◌, if◌then◌else◌}
+use Rattle.std.specs.Prelude.{Some, Result, Ok, Err, is_err, OnOk, OnErr, ◌||◌, if◌then◌else◌}
 use Rattle.std.specs.List.Sorted.{IsStrictlySortedBy}
 use Rattle.std.proofs.Math.Bool.{or-true}
 use Rattle.std.proofs.lemmas.Bool.{true≢false}
@@ -23,12 +23,12 @@ use Rattle.zs_walk.specs.Walking.{runs}
 use Rattle.zs_scan.specs.View.{ScanView, has_item, is_same, pieces_in}
 use Rattle.zs_scan.proofs.Pieces.{same_is, same_itself}
 use Rattle.zs_scan.specs.Changes.{CloneLaw, KeepsAtDestroy, KeepsAtSnapshot, KeepsAtSwap, KeepsFreed}
-use Rattle.zs_scan.specs.Covered.{IsScanOf}
-use Rattle.zs_scan.specs.Steps.{after_start, scrub_started, with_paused}
+use Rattle.zs_scan.specs.Covered.{IsScanOf, Keeps}
+use Rattle.zs_scan.specs.Steps.{after_start, scrub_started, stopped, with_paused}
 use Rattle.zs_machine.specs.Born.{AreBornItems}
 use Rattle.zs_core.specs.Running.{KeepsRest, RunsOn}
 use Rattle.zs_core.proofs.Carried.{carried}
-use Rattle.zs_core.proofs.RunsOn.{rest_at_run, rest_both, runs_kept, up_to_held}
+use Rattle.zs_core.proofs.RunsOn.{rest_at_run, rest_both, runs_kept, runs_none, up_to_held}
 use mathlib.Core.Logic.{inl, inr}
 
 -- a clone is made, or a filesystem
@@ -166,11 +166,11 @@ start_rest : (t : ℕ) (v w : ScanView) (b : Bool) → runs v.run.status ≡ b �
 start_rest t v w true is started = started_rest v w (rw is at started)
   where
     started_rest : (v w : ScanView) → w ≡ record (with_paused false v) { room = w.room } → KeepsRest v w
-    started_rest v w same = record { limit = ap (λ (x : ScanView). x.limit) same; width = ap (λ (x : ScanView). x.scope.width) same; flight = ap (λ (x : ScanView). x.flight) same }
+    started_rest v w same = record { limit = ap (λ (x : ScanView). x.limit) same; every = ap (λ (x : ScanView). x.every) same; width = ap (λ (x : ScanView). x.scope.width) same; flight = ap (λ (x : ScanView). x.flight) same }
 start_rest t v w false is started = started_rest v w (rw is at started)
   where
     started_rest : (v w : ScanView) → w ≡ record (scrub_started t 0 v) { room = w.room } → KeepsRest v w
-    started_rest v w same = record { limit = ap (λ (x : ScanView). x.limit) same; width = ap (λ (x : ScanView). x.scope.width) same; flight = ap (λ (x : ScanView). x.flight) same }
+    started_rest v w same = record { limit = ap (λ (x : ScanView). x.limit) same; every = ap (λ (x : ScanView). x.every) same; width = ap (λ (x : ScanView). x.scope.width) same; flight = ap (λ (x : ScanView). x.flight) same }
 
 -- what a result says where it is no fault
 pub at_none : {A E : Type 0} (r : Result A E) (P : Type 0) → is_err r ≡ false → OnOk r P → P
@@ -188,3 +188,17 @@ scrub_kept t g v w items r no_fault keeps started = record {
   fewer = λ i h. h;
   rest = start_rest t v w (runs v.run.status) refl (at_none r _ no_fault started);
 }
+
+-- a call of a task keeps them too, where it is done and where it is refused
+pub told_kept : {A E : Type 0} (t : ℕ) (g : Graph) (v w : ScanView) (items : List Item) (r : Result A E) → OnOk r (Keeps v w) → OnOk r (KeepsRest v w) → OnErr r (w ≡ v) → RunsOn t g v items g w items
+told_kept t g v w items (Ok x) keeps rest err = record { kept = λ start next a. a; up_to = λ up. up; scanned = λ room scan. keeps room g t t scan; born = λ b. b; fewer = λ i h. h; rest = rest }
+told_kept t g v w items (Err e) keeps rest err = subst (λ (x : ScanView). RunsOn t g v items g x items) (sym err) (runs_none t g v items)
+
+-- what no call of a task changes
+pub paused_rest : {A E : Type 0} (b : Bool) (v w : ScanView) (r : Result A E) → OnOk r (w ≡ with_paused b v) → OnOk r (KeepsRest v w)
+paused_rest b v w (Ok x) is = record { limit = ap (λ (x : ScanView). x.limit) is; every = ap (λ (x : ScanView). x.every) is; width = ap (λ (x : ScanView). x.scope.width) is; flight = ap (λ (x : ScanView). x.flight) is }
+paused_rest b v w (Err e) is = tt
+
+pub stopped_rest : {A E : Type 0} (v w : ScanView) (r : Result A E) → OnOk r (w ≡ stopped v) → OnOk r (KeepsRest v w)
+stopped_rest v w (Ok x) is = record { limit = ap (λ (x : ScanView). x.limit) is; every = ap (λ (x : ScanView). x.every) is; width = ap (λ (x : ScanView). x.scope.width) is; flight = ap (λ (x : ScanView). x.flight) is }
+stopped_rest v w (Err e) is = tt

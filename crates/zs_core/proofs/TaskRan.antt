@@ -1,6 +1,7 @@
 -- What each task makes of the datasets and the scan, where it is done and where it is refused.
 use Rattle.std.proofs.Common.{◌≡◌, ◌∙◌, ℕ, Bool, true, false, Option, refl, sym, ap, subst}
-use Rattle.std.specs.Prelude.{Some, None, Ok, ◌+◌, is_some, option_map, if◌then◌else◌}
+use Rattle.std.proofs.Common.{inl, inr}
+use Rattle.std.specs.Prelude.{Some, None, Result, Ok, Err, OnOk, OnErr, IsTrue, not, ◌&&◌, ◌↔◌, ◌⊎◌, ◌+◌, is_some, option_map, if◌then◌else◌}
 use Rattle.zs_ids.specs.declared.dataset.DsId.{DsId}
 use Rattle.zs_ids.specs.declared.dataset.DsName.{DsName}
 use Rattle.zs_ids.specs.declared.dataset.Name.{Name}
@@ -20,13 +21,18 @@ use Rattle.zs_phys.specs.declared.phys.Phys.{Phys}
 use Rattle.zs_phys.specs.declared.phys.Status.{Status}
 use Rattle.zs_phys.specs.declared.phys.At.TheVariants.{Destroyed}
 use Rattle.zs_phys.specs.Handlers.{Event, Event as events, handled, is_on, dropped}
+use Rattle.zs_walk.specs.Walking.{runs}
 use Rattle.zs_scan.specs.View.{ScanView}
+use Rattle.zs_scan.specs.Steps.{is_scrubbing, stopped, with_paused}
+use Rattle.zs_scan.specs.declared.batch.ScanFault.{ScanFault}
+use Rattle.zs_scan.specs.declared.batch.ScanFault.TheVariants as faults
+use Rattle.zs_script.specs.declared.refusal.Refusal.TheVariants.{NoScan, NotPaused, Paused}
 use Rattle.zs_script.specs.declared.refusal.Refusal.{Refusal}
 use Rattle.zs_machine.specs.Machine.{Data, ScanState}
 use Rattle.zs_machine.specs.Replies.{after_task, head_named, refusal_on, refusal_on_both, task_refusal, told_as, with_one_more, data_with}
 use Rattle.zs_core.specs.View.{data_of, scan_of}
 use Rattle.zs_core.specs.Freeing.{HasLost}
-use Rattle.zs_core.specs.Running.{HasHandled, HasSeen, HasSeenDestroyed, RanTask}
+use Rattle.zs_core.specs.Running.{HasHandled, HasSeen, HasSeenDestroyed, RanTask, refusal_by}
 
 -- a call that is done was not refused
 pub answers_ok : {A : Type 0} (r : Option GraphFault) (x : A) → Answers r (Ok x) → r ≡ None
@@ -175,3 +181,69 @@ module _ (txg : ℕ) (first second : Name) (old : GraphView) (v : ScanView) (x y
       ∙ ap (λ (z : GraphView). data_of z v) (made.now ∙ ap (λ (p : Dataset). let z : GraphView = record old { sets = swapped old.sets p made.second } in z) (some_is made.first x (sym made.first_here ∙ at)) ∙ ap (λ (q : Dataset). let z : GraphView = record old { sets = swapped old.sets x q } in z) (some_is made.second y (sym made.second_here ∙ other_at)))
       ∙ sym (ap (λ (o : Option Dataset). data_with (data_of old v) o (λ p. data_with (data_of old v) (head_named old.sets second) (λ q. record (data_of old v) { graph = swapped old.sets p q }))) named ∙ ap (λ (o : Option Dataset). data_with (data_of old v) o (λ q. record (data_of old v) { graph = swapped old.sets x q })) other_named))
       (λ p q one two. subst (λ (i : DsId). HasHandled v (events.swapped i q.id) w) (sym (ap (λ (d : Dataset). d.id) (some_is p x (sym one ∙ named)) ∙ is)) (subst (λ (i : DsId). HasHandled v (events.swapped a i) w) (sym (ap (λ (d : Dataset). d.id) (some_is q y (sym two ∙ other_named)) ∙ other_is)) handled))
+
+-- a task that is refused changes nothing
+pub ran_refused : (txg : ℕ) (t : Task) (g : GraphView) (v w : ScanView) (why : Refusal) → task_refusal txg (data_of g v) t ≡ Some why → w ≡ v → RanTask txg t g v (Some why) g w
+ran_refused txg t g v w why refused same = record {
+  answer = sym refused;
+  after = ap (λ (x : ScanView). data_of g x) same ∙ sym (ap (λ (r : Option Refusal). if is_some r then data_of g v else after_task txg (data_of g v) t) refused);
+  seen = rw refused same;
+}
+
+is_yes : (b : Bool) → (IsTrue (not b) → ⊥) → b ≡ true
+is_yes true not_so = refl
+is_yes false not_so = absurd (not_so refl)
+
+is_no : (b : Bool) → (IsTrue b → ⊥) → b ≡ false
+is_no true not_so = absurd (not_so refl)
+is_no false not_so = refl
+
+yes_not : (b : Bool) → IsTrue (not b) → b ≡ false
+yes_not true h = cc
+yes_not false h = refl
+
+left_of : (a b : Bool) → IsTrue (a && b) → a ≡ true
+left_of true b both = refl
+left_of false b both = cc
+
+right_of : (a b : Bool) → IsTrue (a && b) → b ≡ true
+right_of true b both = both
+right_of false b both = cc
+
+ok≢err : {A E : Type 0} (x : A) (e : E) → Ok x ≡ Err e → ⊥
+ok≢err x e is = cc
+
+-- a scrub is paused, or that is refused
+pub pause_ran : {A : Type 0} (txg : ℕ) (g : GraphView) (v w : ScanView) (r : Result A ScanFault) → ((r ≡ Err faults.NoScan) ↔ IsTrue (not (is_scrubbing v))) → ((r ≡ Err faults.Paused) ↔ IsTrue (is_scrubbing v && v.run.paused))
+    → OnErr r ((r ≡ Err faults.NoScan) ⊎ (r ≡ Err faults.Paused)) → OnOk r (w ≡ with_paused true v) → OnErr r (w ≡ v) → RanTask txg task.Pause g v (refusal_by r) g w
+pause_ran {A = A} txg g v w (Ok x) no_scan paused why ok err =
+    let scrubs : is_scrubbing v ≡ true = is_yes (is_scrubbing v) (λ no. ok≢err x faults.NoScan (no_scan.1 no)) in
+    let goes_on : (is_scrubbing v && v.run.paused) ≡ false = is_no (is_scrubbing v && v.run.paused) (λ yes. ok≢err x faults.Paused (paused.1 yes)) in
+    let unpaused : v.run.paused ≡ false = ap (λ b. b && v.run.paused) (sym scrubs) ∙ goes_on in
+    ran_done txg task.Pause g v g w (ap (λ b. if b then (if v.run.paused then Some Paused else None) else Some NoScan) scrubs ∙ ap (λ b. if b then Some Paused else None) unpaused) (ap (λ (x : ScanView). data_of g x) ok) ok
+pause_ran {A = A} txg g v w (Err e) no_scan paused why ok err = elim why [
+  | inl none ↦ subst (λ (r : Result A ScanFault). RanTask txg task.Pause g v (refusal_by r) g w) (sym none) (ran_refused txg task.Pause g v w NoScan (ap (λ b. if b then (if v.run.paused then Some Paused else None) else Some NoScan) (yes_not (is_scrubbing v) (no_scan.0 none))) err)
+  | inr rests ↦ let both = paused.0 rests in
+      subst (λ (r : Result A ScanFault). RanTask txg task.Pause g v (refusal_by r) g w) (sym rests)
+      (ran_refused txg task.Pause g v w Paused (ap (λ b. if b then (if v.run.paused then Some Paused else None) else Some NoScan) (left_of (is_scrubbing v) v.run.paused both) ∙ ap (λ b. if b then Some Paused else None) (right_of (is_scrubbing v) v.run.paused both)) err)
+]
+
+-- a paused scrub goes on, or that is refused
+pub resume_ran : {A : Type 0} (txg : ℕ) (g : GraphView) (v w : ScanView) (r : Result A ScanFault) → ((r ≡ Err faults.NotPaused) ↔ IsTrue (not (is_scrubbing v && v.run.paused))) → OnErr r (r ≡ Err faults.NotPaused)
+    → OnOk r (w ≡ with_paused false v) → OnErr r (w ≡ v) → RanTask txg task.Resume g v (refusal_by r) g w
+resume_ran {A = A} txg g v w (Ok x) not_paused why ok err =
+    let rests : (is_scrubbing v && v.run.paused) ≡ true = is_yes (is_scrubbing v && v.run.paused) (λ no. ok≢err x faults.NotPaused (not_paused.1 no)) in
+    ran_done txg task.Resume g v g w (ap (λ b. if b then None else Some NotPaused) rests) (ap (λ (x : ScanView). data_of g x) ok) ok
+resume_ran {A = A} txg g v w (Err e) not_paused why ok err =
+    subst (λ (r : Result A ScanFault). RanTask txg task.Resume g v (refusal_by r) g w) (sym why)
+    (ran_refused txg task.Resume g v w NotPaused (ap (λ b. if b then None else Some NotPaused) (yes_not (is_scrubbing v && v.run.paused) (not_paused.0 why))) err)
+
+-- a scan is stopped, or that is refused
+pub stop_ran : {A : Type 0} (txg : ℕ) (g : GraphView) (v w : ScanView) (r : Result A ScanFault) → ((r ≡ Err faults.NoScan) ↔ IsTrue (not (runs v.run.status))) → OnErr r (r ≡ Err faults.NoScan)
+    → OnOk r (w ≡ stopped v) → OnErr r (w ≡ v) → RanTask txg task.Stop g v (refusal_by r) g w
+stop_ran {A = A} txg g v w (Ok x) no_scan why ok err =
+    let on : runs v.run.status ≡ true = is_yes (runs v.run.status) (λ no. ok≢err x faults.NoScan (no_scan.1 no)) in
+    ran_done txg task.Stop g v g w (ap (λ b. if b then None else Some NoScan) on) (ap (λ (x : ScanView). data_of g x) ok) ok
+stop_ran {A = A} txg g v w (Err e) no_scan why ok err =
+    subst (λ (r : Result A ScanFault). RanTask txg task.Stop g v (refusal_by r) g w) (sym why)
+    (ran_refused txg task.Stop g v w NoScan (ap (λ b. if b then None else Some NoScan) (yes_not (runs v.run.status) (no_scan.0 why))) err)

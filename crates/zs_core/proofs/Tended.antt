@@ -18,6 +18,7 @@ use Rattle.zs_core.specs.declared.parts.Closed.{Closed}
 use Rattle.zs_core.specs.declared.present.Present.TheInside.{Inside}
 use Rattle.zs_core.specs.Applying.{IsTended, Space}
 use Rattle.zs_core.specs.Datasets.{AreDatasets}
+use Rattle.zs_core.specs.Running.{KeepsRest}
 use Rattle.zs_core.specs.Kept.{Facts, IsAtStage, IsClosedOver, IsOneStaged, born_by, pending}
 use Rattle.zs_core.specs.Placed.{room_of}
 use Rattle.zs_core.proofs.Ended.{ends_by, next_scanned}
@@ -44,10 +45,10 @@ datasets_after g t start next staged since none a =
 -- all that is kept stays, with datasets that were tended and a scan that is theirs
 pub facts_after : (p : Inside) (f : Facts p) (c : Closed) → p.closed ≡ Some c → p.suspended ≡ false → p.stage ≡ Writing
     → (space : Space) → space ≡ space_of p → (g : GraphView) (u v : ScanView) (t : ℕ) (stage : Stage) (suspended finished : Bool) (answers : Vec (Option Refusal) Global) → t ≡ c.txg.txg → IsTended space c.txg.txg g.sets u
-    → ((room : Room) (sets : Graph) (n h : ℕ) → IsScanOf room sets n h u → IsScanOf room sets n h v) → v.limit ≡ p.scan.limit → v.scope.width ≡ p.scan.scope.width
+    → ((room : Room) (sets : Graph) (n h : ℕ) → IsScanOf room sets n h u → IsScanOf room sets n h v) → KeepsRest p.scan v
     → (suspended ≡ false → stage ≡ Labelling)
     → Facts (record p { graph = g; scan = v; applied = t; closed = None; stage = stage; suspended = suspended; finished = finished; answers = answers })
-facts_after p f c is up writing space same g u v t stage suspended finished answers number there keeps limit width labelling =
+facts_after p f c is up writing space same g u v t stage suspended finished answers number there keeps rest labelling =
     let over = closed_over p f c is up writing in
     let next : c.txg.txg ≡ p.applied + 1 = over.number in
     let after : p.open.txg ≡ p.applied + 2 = over.next in
@@ -60,7 +61,7 @@ facts_after p f c is up writing space same g u v t stage suspended finished answ
       shape = f.shape;
       online = f.online;
       end = f.end;
-      width = width ∙ f.width;
+      width = rest.width ∙ f.width;
       begun = f.begun;
       space = f.space;
       datasets = datasets_after g.sets t start p.next_sector p.open.staged since (none_open p f c is) tended.datasets;
@@ -69,7 +70,8 @@ facts_after p f c is up writing space same g u v t stage suspended finished answ
       blocks = tended.blocks;
       scan = next_scanned room g.sets t v since scan;
       range = ends_by room g.sets t t v scan;
-      may_wait = limit ∙ f.may_wait;
+      may_wait = rest.limit ∙ f.may_wait;
+      due = rest.every ∙ f.due;
       at_stage = λ still. let last : p.open.txg ≡ t + 1 = omega (arith, number, next, after) in subst (λ (at : Stage). IsAtStage g.sets t p.open.txg None at) (sym (labelling still)) last;
       limit = f.limit;
     }
@@ -100,6 +102,7 @@ facts_halted p f = record {
   scan = f.scan;
   range = f.range;
   may_wait = f.may_wait;
+  due = f.due;
   at_stage = λ up. absurd (true≢false up);
   limit = f.limit;
 }

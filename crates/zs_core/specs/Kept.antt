@@ -103,6 +103,7 @@ pub record Facts (p : Inside) : Type 0 where
   pub scan : IsScanOf (room_of (data_start p.shape.blocks) p.end_sector blocks) p.graph.sets (born_by p.applied) (p.applied + 1) p.scan
   pub range : p.scan.scope.max ≤ p.applied + 1
   pub may_wait : p.scan.limit ≡ p.shape.limit
+  pub due : p.scan.every ≡ p.shape.every
   pub at_stage : p.suspended ≡ false → IsAtStage p.graph.sets p.applied p.open.txg p.closed p.stage
   pub limit : p.open.txg ≤ TXG_END
 

@@ -3,7 +3,7 @@ use Rattle.std.specs.Prelude.{◌≡◌, ℕ, ◌<◌, ◌⊎◌, List, [], ◌�
 use Rattle.zs_phys.specs.Turn.{HasNoWork}
 use Rattle.zs_queue.specs.Waiting.{is_of}
 use Rattle.zs_scan.specs.View.{ScanView}
-use Rattle.zs_scan.specs.Walks.{IsFull}
+use Rattle.zs_scan.specs.Walks.{IsDraining, IsFull}
 use Rattle.zs_script.specs.declared.command.Command.{Command}
 use Rattle.zs_script.specs.declared.command.Command.TheVariants as command
 use Rattle.zs_script.specs.declared.refusal.Refusal.TheVariants.{OutOfRange, DeviceFault}
@@ -17,13 +17,13 @@ use Rattle.zs_machine.specs.Flight.{in_flight}
 use Rattle.zs_machine.specs.Told.{TellsSteps, LeavesNone, line_steps}
 use Rattle.zs_core.specs.View.{CoreView, PoolView}
 
--- why a walk that was to make n turns made just this many: as many were made; the next one is refused as full; or none is
--- left
+-- why a walk that was to make n turns made just this many: as many were made; the next one is refused, because a checkpoint is
+-- due or as full; or none is left
 abbrev pub IsWhy : CoreView → ℕ → ℕ → WalkEnd → Type 0
 IsWhy v n turns ends.More = turns ≡ n
-IsWhy v n turns ends.Full = (turns < n) × IsFull v.state.graph v.scan
+IsWhy v n turns ends.Full = (turns < n) × IsFull v.state.graph v.state.applied v.scan
 IsWhy v n turns ends.Nothing = (turns < n) × HasNoWork v.scan.run
-IsWhy v n turns ends.Draining = ⊥
+IsWhy v n turns ends.Draining = (turns < n) × IsDraining v.state.graph v.state.applied v.scan
 
 -- how many pieces wait, for each mirror: there is one
 abbrev pub waiting_counts : ScanView → List ℕ

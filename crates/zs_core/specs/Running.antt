@@ -1,5 +1,5 @@
 -- What tasks make of the scan, and what stays true while they run.
-use Rattle.std.specs.Prelude.{◌≡◌, ℕ, List, [], ◌∷◌, Option, Some, None}
+use Rattle.std.specs.Prelude.{◌≡◌, ℕ, List, [], ◌∷◌, Option, Some, None, true, false}
 use Rattle.zs_ids.specs.declared.block.Item.{Item}
 use Rattle.zs_ids.specs.declared.dataset.DsId.{DsId}
 use Rattle.zs_ids.specs.Graph.{Dataset, Graph, Has}
@@ -10,8 +10,12 @@ use Rattle.zs_phys.specs.Handlers.{Event, Handled, Event as events}
 use Rattle.zs_txg.specs.declared.task.Task.{Task}
 use Rattle.zs_txg.specs.declared.task.Task.TheVariants as task
 use Rattle.zs_scan.specs.View.{ScanView}
+use Rattle.zs_scan.specs.declared.batch.ScanFault.{ScanFault}
+use Rattle.zs_scan.specs.declared.batch.ScanFault.TheVariants as faults
+use Rattle.zs_script.specs.declared.refusal.Refusal.TheVariants as refusals
+use Rattle.std.specs.Prelude.{Result, Ok, Err}
 use Rattle.zs_scan.specs.Covered.{IsScanOf}
-use Rattle.zs_scan.specs.Steps.{after_start}
+use Rattle.zs_scan.specs.Steps.{after_start, stopped, with_paused}
 use Rattle.zs_machine.specs.Born.{AreBornItems}
 use Rattle.zs_machine.specs.Machine.{Data}
 use Rattle.zs_machine.specs.Replies.{after_run, head_named, task_refusal}
@@ -48,6 +52,9 @@ HasSeen txg d (task.Destroy ds) old new = (gone : Dataset) → dataset_named d.g
 HasSeen txg d (task.Swap first second) old new =
     (a b : Dataset) → head_named d.graph first ≡ Some a → head_named d.graph second ≡ Some b → HasHandled old (events.swapped a.id b.id) new
 HasSeen txg d task.Scrub old new = new ≡ record (after_start txg 0 old) { room = new.room }
+HasSeen txg d task.Pause old new = new ≡ with_paused true old
+HasSeen txg d task.Resume old new = new ≡ with_paused false old
+HasSeen txg d task.Stop old new = new ≡ stopped old
 
 -- what a task makes of the scan: a refused one leaves it
 abbrev pub HasRun : ℕ → Data → Task → ScanView → ScanView → Type 0
@@ -56,6 +63,21 @@ HasRun txg d t old new = has_run (task_refusal txg d t)
     has_run : Option Refusal → Type 0
     has_run None = HasSeen txg d t old new
     has_run (Some why) = new ≡ old
+
+-- why a call of the scan is refused, as the reply to a task has it. A call of a task fails for no other reason
+abbrev pub scan_refusal : ScanFault → Refusal
+scan_refusal faults.ScanBusy = refusals.ScanBusy
+scan_refusal faults.NoScan = refusals.NoScan
+scan_refusal faults.Paused = refusals.Paused
+scan_refusal faults.NotPaused = refusals.NotPaused
+scan_refusal faults.Full = refusals.Full
+scan_refusal faults.Draining = refusals.Draining
+scan_refusal faults.Memory = refusals.NoScan
+
+-- the same of an outcome
+abbrev pub refusal_by : {A : Type 0} → Result A ScanFault → Option Refusal
+refusal_by (Ok x) = None
+refusal_by (Err why) = Some (scan_refusal why)
 
 -- what a list of tasks makes of the scan, one after another
 abbrev pub HaveRun : ℕ → Data → List (ℕ × Task) → ScanView → ScanView → Type 0
@@ -69,9 +91,11 @@ pub record RanTask (txg : ℕ) (t : Task)
   pub after : data_of graph new ≡ after_run txg (data_of old_graph old) t
   pub seen : HasRun txg (data_of old_graph old) t old new
 
--- no part of a sync changes how many pieces of a scan may wait, how many copies a block has, or what is in flight
+-- no part of a sync changes how many pieces of a scan may wait, how often its checkpoints are due, how many copies a block has,
+-- or what is in flight
 pub record KeepsRest (old new : ScanView) : Type 0 where
   pub limit : new.limit ≡ old.limit
+  pub every : new.every ≡ old.every
   pub width : new.scope.width ≡ old.scope.width
   pub flight : new.flight ≡ old.flight
 

@@ -36,6 +36,7 @@ pub record IsSafe (v : CoreView) : Type 0 where
   pub scanned : IsScanOf (room_in v.shape v.end_sector blocks) v.state.graph (born_by v.state.applied) (v.state.applied + 1) v.scan
   pub orderly : IsOrderly v.scan
   pub limit : v.scan.limit ≡ v.shape.limit
+  pub every : v.scan.every ≡ v.shape.every
 
 -- a pool was suspended because memory was wanting in its sync; it has its shape, its space and its batches in flight still
 pub record IsHaltedCore (old new : CoreView) : Type 0 where

@@ -3,6 +3,7 @@ use Rattle.std.specs.Prelude.{◌≡◌, ℕ, List, [], ◌∷◌, ◌++◌, fla
 use Rattle.zs_ids.specs.declared.key.Key.{Key}
 use Rattle.zs_ids.specs.declared.block.Bp.{Bp}
 use Rattle.zs_graph.specs.View.{GraphView}
+use Rattle.zs_txg.specs.declared.task.Task.{Task}
 use Rattle.zs_txg.specs.Txg.{Open}
 use Rattle.zs_core.specs.declared.parts.Changes.{Changes}
 use Rattle.zs_core.specs.declared.parts.Closed.{Closed}
@@ -28,6 +29,11 @@ pointers_of_all changes = flat_map (λ own. own.blocks.items) changes
 abbrev pub pointers_in : Option Closed → List (Key × Bp)
 pointers_in None = []
 pointers_in (Some c) = pointers_of_all c.changes.items
+
+-- the tasks of a transaction group that is closed
+abbrev pub tasks_in : Option Txg → List (ℕ × Task)
+tasks_in None = []
+tasks_in (Some txg) = txg.tasks
 
 -- the scan as the machine has it: what is stored with the state that is kept for a crash is saved
 abbrev pub scan_of : ScanView → ScanState

@@ -3,7 +3,9 @@
 ghost use Rattle.std.specs.Prelude.{◌≡◌, ◌≢◌, [], None, IfOk, OnOk, OnErr, true, false};
 ghost use Rattle.zs_graph.specs.Made.{MayPutAt};
 ghost use Rattle.zs_graph.specs.Refusals.{apply_refusal};
-ghost use Rattle.zs_scan.specs.Steps.{IsComplete};
+ghost use Rattle.zs_walk.specs.Walking.{runs};
+ghost use Rattle.zs_scan.specs.Steps.{IsComplete, IsDrained};
+ghost use Rattle.zs_core.specs.View.{tasks_in};
 ghost use Rattle.zs_machine.specs.Steps.{DataStep};
 ghost use Rattle.zs_core.specs.Applying.{BringForth, HasApplied, HasPut, IsReady, IsTended, PutsOwn, Space, space_in};
 ghost use Rattle.zs_core.specs.Ending.{EndsWith};
@@ -118,7 +120,8 @@ fn end_scan(txg: u64, scan: &mut Scan) -> bool
 impl Present {
     /// Applies the closed transaction group, and answers the items of the pieces that are born in it and live, in order of
     /// place. What is not live any more is freed, and the tasks change the datasets and the scan. A scan that is complete then
-    /// comes to its end, so none is complete after; another one makes a checkpoint where it may. All else of the scan stays as it
+    /// comes to its end, so none is complete after; another one makes a checkpoint where it may, and one of which nothing
+    /// waited or flew before has made one if it still runs. All else of the scan stays as it
     /// was. After want of memory the pool is
     /// suspended, and may have some of the group.
     pub(crate) fn apply(&mut self) -> Result<Boxed<Seq<Item>>, AllocError>
@@ -127,7 +130,8 @@ impl Present {
         requires up { self.old.state.suspended ≡ false }
         requires writing { self.old.state.stage ≡ Stage.Writing }
         ensures step { IfOk result (λ items. DataStep self.old.state items self.new.state) }
-        ensures complete { OnOk result (IsComplete self.old.scan → self.new.state.finished ≡ true) }
+        ensures complete { OnOk result (IsComplete self.old.scan → tasks_in self.old.state.closed ≡ [] → self.new.state.finished ≡ true) }
+        ensures saved { OnOk result (IsDrained self.old.scan → runs self.new.scan.run.status ≡ true → self.new.scan.saved ≡ self.new.state.applied) }
         ensures never { OnOk result (IsComplete self.new.scan → ⊥) }
         ensures scan { OnOk result (IsSynced self.old.state self.old.scan self.new.scan) }
         ensures rest { OnOk result (self.new ≡ record self.old { state = self.new.state; scan = self.new.scan; pointers = [] }) }

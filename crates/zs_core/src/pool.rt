@@ -1,12 +1,12 @@
 //! The pool: its present state, and the history of what happened to it.
 
-ghost use Rattle.std.specs.Prelude.{◌≡◌, ◌≢◌, ◌≤◌, ◌<◌, ◌+◌, ◌++◌, ◌∷◌, ◌⊎◌, [], false, true, length, vec_len, vec_capacity, Err, IfOk, OnOk, OnErr, IsErrOf, MatchOption, take, drop, map, Some, None, OnSome, IfSome, IfNone};
+ghost use Rattle.std.specs.Prelude.{◌≡◌, ◌≢◌, ◌≤◌, ◌<◌, ◌+◌, ◌++◌, ◌∷◌, ◌⊎◌, ◌↔◌, [], false, true, length, vec_len, vec_capacity, Err, IfOk, OnOk, OnErr, IsErrOf, MatchOption, take, drop, map, Some, None, OnSome, IfSome, IfNone};
 ghost use Rattle.std.specs.Option.{option_copied};
 ghost use Rattle.zs_queue.specs.Waiting.{lowest};
 ghost use Rattle.zs_walk.specs.Walking.{runs};
 ghost use Rattle.zs_scan.specs.View.{pieces_in};
-ghost use Rattle.zs_scan.specs.Steps.{Taken, IsComplete, blank_scan};
-ghost use Rattle.zs_scan.specs.Walks.{Walked, IsFull};
+ghost use Rattle.zs_scan.specs.Steps.{Taken, IsComplete, IsDrained, blank_scan};
+ghost use Rattle.zs_scan.specs.Walks.{Walked, IsDraining, IsFull};
 ghost use Rattle.zs_walk.specs.Left.{turns_left};
 ghost use Rattle.zs_machine.specs.Machine.{is_running, is_at_work};
 ghost use Rattle.zs_core.specs.Line.{IsLineReply};
@@ -23,7 +23,7 @@ ghost use Rattle.zs_objset.specs.Staged.{pointers_of};
 ghost use Rattle.zs_core.specs.Safe.{IsFullFor, IsHaltedCore, IsSafe, next_after};
 ghost use Rattle.zs_core.specs.Reading.{IsGotFor, EndsIfRead, IsPlanInRoom};
 ghost use Rattle.zs_machine.specs.History.{AddsEvent};
-ghost use Rattle.zs_core.specs.View.{KeepsCourse, KeepsReads, with_read};
+ghost use Rattle.zs_core.specs.View.{KeepsCourse, KeepsReads, tasks_in, with_read};
 ghost use Rattle.std.specs.Prelude.{ℕ, List, Option};
 ghost use Rattle.zs_ids.specs.declared.block.Piece.{Piece};
 ghost use Rattle.zs_machine.specs.History.{IsHistory};
@@ -367,6 +367,15 @@ impl Pool {
             Command::Scrub => {
                 note_task(&mut self.present, &mut self.history, by, line, Task::Scrub)
             }
+            Command::Pause => {
+                note_task(&mut self.present, &mut self.history, by, line, Task::Pause)
+            }
+            Command::Resume => {
+                note_task(&mut self.present, &mut self.history, by, line, Task::Resume)
+            }
+            Command::Stop => {
+                note_task(&mut self.present, &mut self.history, by, line, Task::Stop)
+            }
             Command::Make {
                 ds,
                 object,
@@ -456,8 +465,9 @@ impl Pool {
         })
     }
 
-    /// Applies the closed transaction group: its blocks, then its tasks, and the scan may come to its end. The pieces that
-    /// are not live any more are freed, a scrub may start or be resumed, and all else of the scan stays as it was. The marks
+    /// Applies the closed transaction group: its blocks, then its tasks, and the scan may come to its end or make a checkpoint.
+    /// The pieces that are not live any more are freed, a scan may start, be paused, resumed or stopped, and all else of the
+    /// scan stays as it was. The marks
     /// tell where the blocks' writes stand in the journals; no device failed. After want of memory the pool is suspended, and
     /// may have some of the group.
     pub fn end_data(&mut self, marks: &Marks) -> Result<(), AllocError>
@@ -465,10 +475,14 @@ impl Pool {
         requires up { self.old.core.state.suspended ≡ false }
         requires failed { marks.now.failed ≡ 0 }
         ensures step { OnOk result (AppliesGroup marks.now self.old self.new) }
-        ensures ends { OnOk result (IsComplete self.old.core.scan → is_at_work self.new.core.state.scan ≡ false) }
+        ensures ends { OnOk result (IsComplete self.old.core.scan → tasks_in self.old.core.state.closed ≡ []
+            → is_at_work self.new.core.state.scan ≡ false) }
+        ensures saved { OnOk result (IsDrained self.old.core.scan → runs self.new.core.scan.run.status ≡ true
+            → self.new.core.scan.saved ≡ self.new.core.state.applied) }
         ensures rest { OnOk result (self.new.core ≡ record self.old.core { state = self.new.core.state; scan = self.new.core.scan; pointers = [] }) }
         ensures scan { OnOk result (IsSynced self.old.core.state self.old.core.scan self.new.core.scan) }
         ensures stage { OnOk result (self.new.core.state.stage ≡ Stage.Labelling) }
+        ensures flight { OnOk result (self.new.core.scan.flight ≡ self.old.core.scan.flight) }
         ensures kept { OnOk result (KeepsReads self.old.core.state self.new.core.state) }
         ensures err { OnErr result
             (AddsEvent 0
@@ -550,8 +564,9 @@ impl Pool {
         Ok(answer)
     }
 
-    /// Makes one turn of the walk. Refused as `Full` exactly where the turn would put a piece and as many wait as may; then
-    /// there is no event.
+    /// Makes one turn of the walk. Refused as `Draining` exactly where a checkpoint is due and there is a turn to make, else as
+    /// `Full` where the turn would put a piece and as many wait as may; then there is no event. Where memory is wanting for
+    /// the event, that is answered instead.
     pub fn walk(&mut self, by: u8) -> Result<Turn, ScanFault>
         requires up { self.old.core.state.suspended ≡ false }
         ensures event { IfOk result (λ turn. AddsEvent by (Step.Walk turn) Reply.Nothing self.old.history self.new.history) }
@@ -560,8 +575,11 @@ impl Pool {
             (λ turn. turn ≢ Turn.Nothing →
             turns_left self.old.core.state.graph self.new.core.scan.run < turns_left self.old.core.state.graph self.old.core.scan.run) }
         ensures core { self.new.core ≡ record self.old.core { scan = self.new.core.scan } }
-        ensures full { IsErrOf result ScanFault.Full → IsFull self.old.core.state.graph self.old.core.scan }
-        ensures why { OnErr result ((result ≡ Err ScanFault.Full) ⊎ (result ≡ Err ScanFault.Memory)) }
+        ensures draining { IsErrOf result ScanFault.Draining → IsDraining self.old.core.state.graph self.old.core.state.applied self.old.core.scan }
+        ensures drains { IsDraining self.old.core.state.graph self.old.core.state.applied self.old.core.scan
+            → (result ≡ Err ScanFault.Draining) ⊎ (result ≡ Err ScanFault.Memory) }
+        ensures full { IsErrOf result ScanFault.Full → IsFull self.old.core.state.graph self.old.core.state.applied self.old.core.scan }
+        ensures why { OnErr result ((result ≡ Err ScanFault.Full) ⊎ ((result ≡ Err ScanFault.Draining) ⊎ (result ≡ Err ScanFault.Memory))) }
         ensures err { OnErr result (self.new ≡ self.old) }
     {
         self.history.reserve(ROOM)?;

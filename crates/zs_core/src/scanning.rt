@@ -1,11 +1,11 @@
 //! The turns of the walk, the batches that are taken, and their verdicts.
 
-ghost use Rattle.std.specs.Prelude.{◌≡◌, ◌≢◌, ◌≤◌, ◌<◌, ◌++◌, ◌⊎◌, Err, IfOk, OnOk, OnErr, IsErrOf, IfSome, false, map, length, filter, Some, None, Ok, option_map};
+ghost use Rattle.std.specs.Prelude.{◌≡◌, ◌≢◌, ◌≤◌, ◌<◌, ◌++◌, ◌⊎◌, ◌↔◌, Err, IfOk, OnOk, OnErr, IsErrOf, IfSome, false, map, length, filter, Some, None, Ok, option_map};
 ghost use Rattle.zs_queue.specs.Waiting.{lowest};
 ghost use Rattle.zs_scan.specs.View.{pieces_in};
 ghost use Rattle.zs_scan.specs.Steps.{Taken};
 ghost use Rattle.zs_core.specs.Judging.{entries_in, IsJudged};
-ghost use Rattle.zs_scan.specs.Walks.{Walked, IsFull};
+ghost use Rattle.zs_scan.specs.Walks.{Walked, IsDraining, IsFull};
 ghost use Rattle.zs_walk.specs.Left.{turns_left};
 ghost use Rattle.zs_machine.specs.Steps.{VerdictStep};
 ghost use Rattle.zs_ledger.specs.Entry.{HaveCopies};
@@ -25,12 +25,13 @@ impl Present {
             (λ turn. turn ≢ Turn.Nothing →
             turns_left self.old.state.graph self.new.scan.run < turns_left self.old.state.graph self.old.scan.run) }
         ensures state { self.new.state ≡ self.old.state }
-        ensures full { IsErrOf result ScanFault.Full → IsFull self.old.state.graph self.old.scan }
-        ensures why { OnErr result ((result ≡ Err ScanFault.Full) ⊎ (result ≡ Err ScanFault.Memory)) }
+        ensures draining { (result ≡ Err ScanFault.Draining) ↔ IsDraining self.old.state.graph self.old.state.applied self.old.scan }
+        ensures full { IsErrOf result ScanFault.Full → IsFull self.old.state.graph self.old.state.applied self.old.scan }
+        ensures why { OnErr result ((result ≡ Err ScanFault.Full) ⊎ ((result ≡ Err ScanFault.Draining) ⊎ (result ≡ Err ScanFault.Memory))) }
         ensures rest { self.new ≡ record self.old { scan = self.new.scan } }
         ensures err { OnErr result (self.new ≡ self.old) }
     {
-        let turn = self.scan.walk_step(&self.graph)?;
+        let turn = self.scan.walk_step(&self.graph, self.applied)?;
         Ok(turn)
     }
 

@@ -5,15 +5,15 @@ ghost use Rattle.zs_graph.specs.declared.fault.GraphFault.TheVariants.{Memory};
 ghost use Rattle.zs_graph.specs.Made.{IsUpTo};
 ghost use Rattle.zs_machine.specs.Replies.{after_tasks, head_named, reason, task_answers};
 ghost use Rattle.zs_core.specs.View.{data_of};
-ghost use Rattle.zs_core.specs.Running.{HaveRun, RanTask, RunsOn};
+ghost use Rattle.zs_core.specs.Running.{HaveRun, RanTask, RunsOn, refusal_by};
 
 use crate::born::drop_freed;
 use std::alloc::AllocError;
 use zs_flat::Flat;
 use zs_graph::{Graph, GraphFault};
 use zs_ids::{DsId, DsName, Item, Name};
-use zs_scan::Scan;
 use zs_scan::laws::clone_law;
+use zs_scan::{Scan, ScanFault};
 use zs_script::Refusal;
 use zs_txg::{OpenTxg, Task};
 
@@ -171,6 +171,21 @@ fn run_swap(
     }
 }
 
+/// Why a call of the scan is refused, as the reply to a task has it.
+fn refusal_by(outcome: Result<(), ScanFault>) -> Option<Refusal>
+    ensures { result ≡ refusal_by outcome }
+{
+    match outcome {
+        Ok(()) => None,
+        Err(ScanFault::ScanBusy) => Some(Refusal::ScanBusy),
+        Err(ScanFault::NoScan | ScanFault::Memory) => Some(Refusal::NoScan),
+        Err(ScanFault::Paused) => Some(Refusal::Paused),
+        Err(ScanFault::NotPaused) => Some(Refusal::NotPaused),
+        Err(ScanFault::Full) => Some(Refusal::Full),
+        Err(ScanFault::Draining) => Some(Refusal::Draining),
+    }
+}
+
 /// Starts a scrub of what is born before a transaction group, or resumes a paused one.
 fn run_scrub(txg: u64, graph: &Graph<Flat>, scan: &mut Scan, items: &[Item]) -> Option<Refusal>
     ensures ran { RanTask txg Task.Scrub graph.now scan.old result graph.now scan.new }
@@ -180,6 +195,30 @@ fn run_scrub(txg: u64, graph: &Graph<Flat>, scan: &mut Scan, items: &[Item]) -> 
         return Some(Refusal::ScanBusy);
     }
     None
+}
+
+/// Pauses the scrub.
+fn run_pause(txg: u64, graph: &Graph<Flat>, scan: &mut Scan, items: &[Item]) -> Option<Refusal>
+    ensures ran { RanTask txg Task.Pause graph.now scan.old result graph.now scan.new }
+    ensures runs_on { RunsOn txg graph.now.sets scan.old items.now graph.now.sets scan.new items.now }
+{
+    refusal_by(scan.pause())
+}
+
+/// Lets the paused scrub go on.
+fn run_resume(txg: u64, graph: &Graph<Flat>, scan: &mut Scan, items: &[Item]) -> Option<Refusal>
+    ensures ran { RanTask txg Task.Resume graph.now scan.old result graph.now scan.new }
+    ensures runs_on { RunsOn txg graph.now.sets scan.old items.now graph.now.sets scan.new items.now }
+{
+    refusal_by(scan.resume())
+}
+
+/// Cancels the scan, paused or not.
+fn run_stop(txg: u64, graph: &Graph<Flat>, scan: &mut Scan, items: &[Item]) -> Option<Refusal>
+    ensures ran { RanTask txg Task.Stop graph.now scan.old result graph.now scan.new }
+    ensures runs_on { RunsOn txg graph.now.sets scan.old items.now graph.now.sets scan.new items.now }
+{
+    refusal_by(scan.stop())
 }
 
 /// Runs a task, and answers why it is refused. A refused one changes nothing, nor does one for which memory was wanting.
@@ -201,6 +240,9 @@ pub(crate) fn run_task(
         Task::Destroy { ds } => run_destroy(txg, ds, graph, scan, items),
         Task::Swap { first, second } => run_swap(txg, first, second, graph, scan, items),
         Task::Scrub => Ok(run_scrub(txg, graph, scan, items)),
+        Task::Pause => Ok(run_pause(txg, graph, scan, items)),
+        Task::Resume => Ok(run_resume(txg, graph, scan, items)),
+        Task::Stop => Ok(run_stop(txg, graph, scan, items)),
     }
 }
 

@@ -92,6 +92,14 @@ has_object s d object = is_some (staged_record s d.id (record_key object 0)) || 
 abbrev pub is_running : ScanState → Bool
 is_running scan = runs scan.status
 
+-- a scrub is running, paused or not
+abbrev pub is_scrubbing : ScanState → Bool
+is_scrubbing scan = is_running scan && is_scrub scan.scope.kind
+
+-- a scrub is running that is paused
+abbrev pub is_paused_scrub : ScanState → Bool
+is_paused_scrub scan = is_scrubbing scan && scan.paused
+
 -- a scan is running that is not a paused scrub
 abbrev pub is_busy : ScanState → Bool
 is_busy scan = is_running scan && not (scan.paused && is_scrub scan.scope.kind)

@@ -17,10 +17,10 @@ use Rattle.zs_phys.specs.declared.phys.Status.TheVariants as status
 use Rattle.zs_phys.specs.declared.scope.Scope.{Scope}
 use Rattle.zs_scan.specs.Steps.{scrub_scope}
 use Rattle.zs_script.specs.declared.refusal.Refusal.{Refusal}
-use Rattle.zs_script.specs.declared.refusal.Refusal.TheVariants.{NoDataset, Exists, NotHead, NotSnapshot, HasClones, HasSnapshots, NotSiblings, SameTxg, TooMany, ScanBusy, NoObject, ObjectThere, PastEnd, Suspended, TxgEnd}
+use Rattle.zs_script.specs.declared.refusal.Refusal.TheVariants.{NoDataset, Exists, NotHead, NotSnapshot, HasClones, HasSnapshots, NotSiblings, SameTxg, TooMany, NoScan, ScanBusy, NotPaused, Paused, NoObject, ObjectThere, PastEnd, Suspended, TxgEnd}
 use Rattle.zs_script.specs.declared.reply.Reply.{Reply}
 use Rattle.zs_script.specs.declared.reply.Reply.TheVariants as reply
-use Rattle.zs_machine.specs.Machine.{PoolState, Data, ScanState, has_object, is_running, is_busy}
+use Rattle.zs_machine.specs.Machine.{PoolState, Data, ScanState, has_object, is_running, is_scrubbing, is_paused_scrub, is_busy}
 
 -- the datasets with the id that the next one gets, as their changes see them
 abbrev pub sets_of : Data → GraphView
@@ -62,6 +62,10 @@ refusal_on_both (Some d) (Some e) why = told_as (why d e)
 abbrev pub scrub_from : Scope → ℕ → ScanState
 scrub_from scope txg = record { scope = scrub_scope scope txg; status = status.Scanning; paused = false; checked = []; saved = 0 }
 
+-- a scan that is stopped: it is canceled and not paused, and what it checked is saved, so that a commit drops none of it
+abbrev pub stopped : ScanState → ScanState
+stopped scan = record scan { status = status.Canceled; paused = false; saved = length scan.checked }
+
 -- why a task is refused when it runs in a transaction group. Names are resolved then
 abbrev pub task_refusal : ℕ → Data → Task → Option Refusal
 task_refusal txg d (task.Fs name) = told_as (fs_refusal (sets_of d) name)
@@ -71,6 +75,9 @@ task_refusal txg d (task.Destroy ds) = refusal_on (dataset_named d.graph ds) (λ
 task_refusal txg d (task.Swap first second) =
     refusal_on_both (head_named d.graph first) (head_named d.graph second) (λ a b. swap_refusal (sets_of d) a.id b.id)
 task_refusal txg d task.Scrub = if is_busy d.scan then Some ScanBusy else None
+task_refusal txg d task.Pause = if is_scrubbing d.scan then (if d.scan.paused then Some Paused else None) else Some NoScan
+task_refusal txg d task.Resume = if is_paused_scrub d.scan then None else Some NotPaused
+task_refusal txg d task.Stop = if is_running d.scan then None else Some NoScan
 
 -- the datasets with one more, which gets the next id
 abbrev pub with_one_more : Data → Graph → Data
@@ -92,6 +99,9 @@ after_task txg d (task.Destroy ds) = data_with d (dataset_named d.graph ds) (λ 
 after_task txg d (task.Swap first second) =
     data_with d (head_named d.graph first) (λ a. data_with d (head_named d.graph second) (λ b. record d { graph = swapped d.graph a b }))
 after_task txg d task.Scrub = record d { scan = if is_running d.scan then record d.scan { paused = false } else scrub_from d.scan.scope txg }
+after_task txg d task.Pause = record d { scan = record d.scan { paused = true } }
+after_task txg d task.Resume = record d { scan = record d.scan { paused = false } }
+after_task txg d task.Stop = record d { scan = stopped d.scan }
 
 -- what a task does: a refused one changes nothing
 abbrev pub after_run : ℕ → Data → Task → Data

@@ -114,6 +114,9 @@ CommandStep s by (command.Clone ds name) answer t = TaskStep s by (task.Clone ds
 CommandStep s by (command.Destroy ds) answer t = TaskStep s by (task.Destroy ds) answer t
 CommandStep s by (command.Swap first second) answer t = TaskStep s by (task.Swap first second) answer t
 CommandStep s by command.Scrub answer t = TaskStep s by task.Scrub answer t
+CommandStep s by command.Pause answer t = TaskStep s by task.Pause answer t
+CommandStep s by command.Resume answer t = TaskStep s by task.Resume answer t
+CommandStep s by command.Stop answer t = TaskStep s by task.Stop answer t
 CommandStep s by (command.Make ds object levels size fill) answer t = MakeStep s ds object size fill answer t
 CommandStep s by (command.Write ds object leaf fill) answer t = WriteStep s ds object leaf fill answer t
 CommandStep s by command.Status answer t = TellsStatus s answer × (t ≡ s)
@@ -207,7 +210,7 @@ abbrev pub EndStep : PoolState → PoolState → Type 0
 EndStep s t = Finishes s t ⊎ (Saves s t ⊎ (t ≡ record s { finished = false }))
 
 -- the closed transaction group is applied: its blocks are put over the datasets' own, its tasks run in order, and the scan
--- may come to its end. The items are those of the pieces that are born in it and live then
+-- may come to its end or make a checkpoint. The items are those of the pieces that are born in it and live then
 pub record DataStep (s : PoolState) (items : List Item) (t : PoolState) : Type 0 where
   pub txg : Txg
   pub was_closed : s.closed ≡ Some txg

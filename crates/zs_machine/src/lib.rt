@@ -11,7 +11,8 @@
 //! `specs/Shapes` the numbers that a pool is made with, and `specs/Commands` the commands of a history.
 //! Promise, as laws: a run with one more step is a run; the text of a history is that of its events, one after another;
 //! and a history that reports a scan as finished has had, when it came to its end, an entry for each live piece in
-//! its scope (`laws`). The machine lets a scan end nowhere else.
+//! its scope (`laws`). The machine lets a scan finish nowhere else. One that is stopped is canceled, and no history reports it
+//! as finished.
 //!
 //! Why a machine beside the pool. It has of a scan its range and the list of what was checked. How the walk goes, what
 //! waits and in which order pieces are checked is left open, so nothing in it can be wrong by a slip of the engine's,

@@ -7,13 +7,15 @@ use Rattle.zs_machine.specs.Replies.{after_tasks, task_answers}
 use Rattle.zs_core.specs.Applying.{IsReady, Space, space_in}
 use Rattle.zs_core.specs.Kept.{Facts, view_of}
 use Rattle.zs_core.specs.Running.{HaveRun}
-use Rattle.zs_core.specs.View.{closed_of, data_of, scan_of, txg_of}
-use Rattle.zs_core.proofs.Complete.{complete_busy, ran_complete}
+use Rattle.zs_scan.specs.Steps.{IsComplete}
+use Rattle.zs_core.specs.View.{closed_of, data_of, scan_of, tasks_in, txg_of}
+use Rattle.zs_core.proofs.Drained.{freed_drained, ran_drained, ran_none, tasks_none}
 use Rattle.zs_core.specs.Ending.{EndsWith}
 use Rattle.zs_core.specs.Synced.{EndsIfComplete}
-use Rattle.zs_core.proofs.Ended.{end_step, ended_if_complete, ended_never, ended_rest}
+use Rattle.zs_core.proofs.Ended.{end_step, ended_if_complete, ended_never, ended_rest, ended_saved}
 use Rattle.zs_core.proofs.PutGroup.{put_data}
 use Rattle.zs_core.proofs.Ready.{ready, space_of}
+use Rattle.zs_core.proofs.RunsOn.{rest_both}
 use Rattle.zs_core.proofs.Tended.{closed_over, facts_after}
 use Rattle.zs_core.proofs.present.Present.apply.Goals as goal
 
@@ -32,13 +34,13 @@ pub invariant_of-self : goal.invariant_of-self
 invariant_of-self g c =
     rw c.replace.ensures.after (facts_after c.self.inside c.self.invariant c.in-Some.closed (sym c.replace.ensures.value ∙ c.in-Some.is) (ap (λ v. v.state.suspended) c.self.view_is ∙ c.requires.1.0) (ap (λ v. v.state.stage) c.self.view_is ∙ c.requires.1.1) g.space (c.requires.0 ∙ ap space_in (sym c.self.view_is))
     c.apply_group-applied.new.graph c.apply_group-applied.new.scan c.apply_group-applied.new.scan c.txg-self-inside.result Between true c.self.inside.finished c.self.inside.answers c.txg-self-inside.ensures c.apply_group-applied.ensures.tended
-    (λ room sets n h s. s) c.apply_group-applied.ensures.rest.limit c.apply_group-applied.ensures.rest.width (λ up. absurd (true≢false up)))
+    (λ room sets n h s. s) c.apply_group-applied.ensures.rest (λ up. absurd (true≢false up)))
 
 pub invariant_of-self-2 : goal.invariant_of-self-2
 invariant_of-self-2 g c =
     rw c.replace.ensures.after (facts_after c.self.inside c.self.invariant c.in-Some.closed (sym c.replace.ensures.value ∙ c.in-Some.is) (ap (λ v. v.state.suspended) c.self.view_is ∙ c.requires.1.0) (ap (λ v. v.state.stage) c.self.view_is ∙ c.requires.1.1) g.space (c.requires.0 ∙ ap space_in (sym c.self.view_is))
     c.apply_group-applied.new.graph c.apply_group-applied.new.scan c.end_scan-self-inside.new.scan c.txg-self-inside.result Labelling c.self.inside.suspended c.end_scan-self-inside.result c.apply_group-applied.new.answers c.txg-self-inside.ensures c.apply_group-applied.ensures.tended
-    c.end_scan-self-inside.ensures.keeps ((ended_rest _ _ _ _ c.end_scan-self-inside.ensures).limit ∙ c.apply_group-applied.ensures.rest.limit) ((ended_rest _ _ _ _ c.end_scan-self-inside.ensures).width ∙ c.apply_group-applied.ensures.rest.width) (λ up. refl))
+    c.end_scan-self-inside.ensures.keeps (rest_both _ _ _ c.apply_group-applied.ensures.rest (ended_rest _ _ _ _ c.end_scan-self-inside.ensures)) (λ up. refl))
 
 pub returns-clause-step : goal.returns-clause-step
 returns-clause-step g c =
@@ -58,11 +60,21 @@ returns-clause-step g c =
     })
 
 pub returns-clause-complete : goal.returns-clause-complete
-returns-clause-complete g c = λ was.
+returns-clause-complete g c = λ was untasked.
+    let there : c.self.inside.closed ≡ Some c.in-Some.closed = sym c.replace.ensures.value ∙ c.in-Some.is in
     let done = c.in-Ok.ensures.ok in
     let lost = (done.put).lost in
     let freed = freed_complete c.self.inside.scan done.freed lost.pieces (lost.freed).rest (rw (← c.self.view_is) at was) in
-    c.end_scan-self-inside.ensures.complete.1 (ran_complete c.in-Some.closed.txg.txg (data_of done.mid done.freed) c.in-Some.closed.txg.tasks done.freed c.apply_group-applied.new.scan (complete_busy done.freed freed) done.seen freed)
+    let none = tasks_none _ _ there (ap (λ v. tasks_in v.state.closed) c.self.view_is ∙ untasked) in
+    c.end_scan-self-inside.ensures.complete.1 (ran_none _ _ c.in-Some.closed.txg.tasks done.freed c.apply_group-applied.new.scan IsComplete none done.seen freed)
+
+pub returns-clause-saved : goal.returns-clause-saved
+returns-clause-saved g c = λ was running.
+    let done = c.in-Ok.ensures.ok in
+    let lost = (done.put).lost in
+    let freed = freed_drained c.self.inside.scan done.freed lost.pieces (lost.freed).rest (rw (← c.self.view_is) at was) in
+    let ran = ran_drained c.in-Some.closed.txg.txg _ c.in-Some.closed.txg.tasks done.freed c.apply_group-applied.new.scan done.seen freed in
+    ended_saved _ _ _ _ c.end_scan-self-inside.ensures ran running
 
 pub returns-clause-scan : goal.returns-clause-scan
 returns-clause-scan g c =

@@ -32,6 +32,7 @@ invariant_of-result c =
       scan = rw alone (c.in_ok-scan.ensures.fresh (room_of start c.space_end-end_sector.result 64) (origin ∷ []) 1 1 (omega arith) (blank_valid (room_of start c.space_end-end_sector.result 64) 1 (omega arith)));
       range = let none : c.in_ok-scan.scan.scope.max ≡ 0 = ap (λ (v : ScanView). v.scope.max) blank_is in omega (arith, none);
       may_wait = ap (λ (v : ScanView). v.limit) blank_is;
+      due = ap (λ (v : ScanView). v.every) blank_is;
       at_stage = λ up. record {
         number = ap (λ (o : Open). o.txg) c.new-first.ensures;
         next = ap (λ (o : Open). o.txg) c.new-open.ensures;

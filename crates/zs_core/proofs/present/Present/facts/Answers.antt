@@ -13,4 +13,5 @@ returns c =
       scanned = f.scan;
       orderly = c.facts.ensures;
       limit = f.may_wait;
+      every = f.due;
     })

@@ -34,6 +34,7 @@ invariant_of-self-2 c =
       scan = f.scan;
       range = f.range;
       may_wait = f.may_wait;
+      due = f.due;
       at_stage = λ up. subst (λ (n : ℕ). IsAtStage c.self.inside.graph.sets c.self.inside.applied n c.self.inside.closed c.self.inside.stage) (sym (ap (λ o. o.txg) c.in_ok-stage_record.ensures.kept)) (f.at_stage up);
       limit = subst (λ (n : ℕ). n ≤ TXG_END) (sym (ap (λ o. o.txg) c.in_ok-stage_record.ensures.kept)) f.limit;
     }

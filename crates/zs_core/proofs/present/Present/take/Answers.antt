@@ -9,7 +9,7 @@ pub invariant_of-self : goal.invariant_of-self
 invariant_of-self c =
     let same = c.in_err-batch.ensures.err in
     with_scan c.self.inside c.take.new.self c.self.invariant
-    (record { limit = ap (λ (v : ScanView). v.limit) same; width = ap (λ (v : ScanView). v.scope.width) same; max = ap (λ (v : ScanView). v.scope.max) same })
+    (record { limit = ap (λ (v : ScanView). v.limit) same; every = ap (λ (v : ScanView). v.every) same; width = ap (λ (v : ScanView). v.scope.width) same; max = ap (λ (v : ScanView). v.scope.max) same })
     (λ start blocks was. rw same (room_keeps _ _ _ _ _ _ was))
 
 pub invariant_of-self-2 : goal.invariant_of-self-2

@@ -14,7 +14,7 @@ pub invariant_of-self : goal.invariant_of-self
 invariant_of-self c =
     let same = (c.verdict.ensures.judged).rest in
     with_scan c.self.inside c.verdict.new.self c.self.invariant
-    (record { limit = ap (λ (v : ScanView). v.limit) same; width = ap (λ (v : ScanView). v.scope.width) same; max = ap (λ (v : ScanView). v.scope.max) same })
+    (record { limit = ap (λ (v : ScanView). v.limit) same; every = ap (λ (v : ScanView). v.every) same; width = ap (λ (v : ScanView). v.scope.width) same; max = ap (λ (v : ScanView). v.scope.max) same })
     (λ start blocks was. c.verdict.ensures.keeps _ _ _ _ was)
 
 pub returns-clause-step : goal.returns-clause-step
