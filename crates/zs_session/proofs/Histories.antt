@@ -1,10 +1,10 @@
 -- How a pool goes on, alone and with its devices.
 use Rattle.std.proofs.Common.{◌≡◌, ℕ, List, [], ◌∷◌, ◌++◌, subst, ap, refl, sym, ◌∙◌, append_assoc, append-nil}
 use Rattle.std.proofs.lemmas.Grind.{flat_map-append}
-use Rattle.std.specs.Prelude.{Result, Ok, Err, OnErr, IsErrOf}
+use Rattle.std.specs.Prelude.{Result, Ok, Err, OnErr}
 use Rattle.std.proofs.lemmas.Result.{on_err_weaker}
 use Rattle.zs_io.specs.declared.fault.BayFault.{BayFault}
-use Rattle.zs_io.specs.declared.fault.BayFault.TheVariants.{Failed, Memory}
+use Rattle.zs_io.specs.declared.fault.BayFault.TheVariants.{Memory}
 use Rattle.zs_lane.specs.Children.{DeviceView}
 use Rattle.zs_script.specs.declared.command.Command.{Command}
 use Rattle.zs_script.specs.declared.reply.Reply.{Reply}
@@ -211,18 +211,16 @@ stops_so old new before after r passes = record { silent = handed r passes.silen
 -- a line that ends in a call without devices, behind parts that passed
 pub line_after : {T : Type 0} (old mid new : PoolView) (before between : Journals) (r : Result T BayFault) → Went old mid before between [] → WantsMemory mid new r
     → StopsLine old new before between r
-line_after old mid new before between r went wants = record {
-  silent = no_device r wants.memory;
-  went_on = on_err_weaker r (halts_after old mid new before between between [] went) (wants.went_on between);
-}
-  where
-    no_device : {U : Type 0} (r : Result U BayFault) → OnErr r (r ≡ Err Memory) → IsErrOf r Failed → text_of new.history ≡ text_of old.history
-    no_device (Ok x) memory failed = cc
-    no_device (Err e) memory failed = cc
+line_after old mid new before between r went wants = record { went_on = on_err_weaker r (halts_after old mid new before between between [] went) (wants.went_on between) }
+
+-- a line whose last part stops, behind parts that went on
+pub line_halts : {T : Type 0} (old mid new : PoolView) (before between after : Journals) (r : Result T BayFault) → Went old mid before between [] → Halts mid new between after []
+    → StopsLine old new before after r
+line_halts old mid new before between after r went halts = record { went_on = handed r (halts_after old mid new before between after [] went halts) }
 
 -- a line that stops only for want of memory
 pub line_wants : {T : Type 0} (old new : PoolView) (before after : Journals) (r : Result T BayFault) → r ≡ Err Memory → Halts old new before after [] → StopsLine old new before after r
-line_wants old new before after r memory halts = record { silent = λ failed. cc; went_on = handed r halts }
+line_wants old new before after r memory halts = record { went_on = handed r halts }
 
 -- one event without a reply and a command passes, and calls of which no event tells
 pub passes_event : {T E : Type 0} (by : ℕ) (s : Step) (old new : PoolView) (before after : Journals) (r : Result T E) → command_in s ≡ []

@@ -35,3 +35,4 @@ pub mod CheckedEntries
 pub mod ReadCalls
 pub mod WrittenCalls
 pub mod Matching
+pub mod Again

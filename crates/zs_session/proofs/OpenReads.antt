@@ -14,7 +14,7 @@ use Rattle.zs_machine.specs.declared.event.OpenRead.{OpenRead}
 use Rattle.zs_machine.specs.Shapes.{room_in}
 use Rattle.zs_core.specs.Reading.{EndsIfRead, IsPlanInRoom, read_reply}
 use Rattle.zs_core.specs.View.{CoreView, PoolView, with_read}
-use Rattle.zs_machine.specs.History.{AddsEvent, text_of}
+use Rattle.zs_machine.specs.History.{AddsEvent}
 use Rattle.zs_lane.specs.Children.{DeviceView}
 use Rattle.zs_mirror.specs.declared.fault.ReadFault.{ReadFault}
 use Rattle.zs_mirror.specs.declared.fault.ReadFault.TheVariants.{Lost}
@@ -25,7 +25,7 @@ use Rattle.zs_session.specs.OpenReads.{AwaitsRead, EndsOpenRead, WasReadFrom}
 use Rattle.zs_session.specs.Devices.{Journals, AreLonger, journals}
 use Rattle.zs_session.specs.Plays.{Went, WentAlone, EndsIn, TriesAll, FindsCopy}
 use Rattle.zs_session.specs.Session.{IsReady, HaltsPart, StopsIn}
-use Rattle.zs_session.proofs.Histories.{handed, silent_adds, halts_same, part_none, part_one, went_one, went_adds, went_twice}
+use Rattle.zs_session.proofs.Histories.{handed, halts_same, part_none, part_one, went_one, went_adds, went_twice}
 use Rattle.zs_session.proofs.LineSteps.{ready_after}
 use Rattle.zs_session.proofs.Outcomes.{where_ok}
 use Rattle.zs_session.proofs.Rooms.{first_mirror}
@@ -114,16 +114,13 @@ part_same c old new before after same longer = part_none old new before after (c
 pub read_stops : {T : Type 0} (by : ℕ) (c : Command) (plan : ReadPlan) (old mid new : PoolView) (r : OpenRead) (before after : Journals) (result : Result T BayFault)
     → AddsEvent by (steps.ReadBegin c (Some plan)) replies.Nothing old.history mid.history → mid.core ≡ with_read old.core r → new ≡ mid → AreLonger before after
     → StopsIn old new before after (c ∷ []) result
-read_stops by c plan old mid new r before after result event begun same longer = record {
-  silent = λ failed. ap (λ (p : PoolView). text_of p.history) same ∙ silent_adds by (steps.ReadBegin c (Some plan)) old.history mid.history event;
-  went_on = handed result (part_begun by c plan old mid new r before after event begun same longer);
-}
+read_stops by c plan old mid new r before after result event begun same longer = record { went_on = handed result (part_begun by c plan old mid new r before after event begun same longer) }
 
 -- also where its end was refused
 pub read_ends : {T : Type 0} (by : ℕ) (c : Command) (plan : ReadPlan) (old mid new : PoolView) (r : OpenRead) (before after : Journals) (result : Result T BayFault)
     → AddsEvent by (steps.ReadBegin c (Some plan)) replies.Nothing old.history mid.history → mid.core ≡ with_read old.core r → OnErr result (new ≡ mid) → AreLonger before after
     → StopsIn old new before after (c ∷ []) result
-read_ends by c plan old mid new r before after (Ok x) event begun same longer = record { silent = λ failed. cc; went_on = tt }
+read_ends by c plan old mid new r before after (Ok x) event begun same longer = record { went_on = tt }
 read_ends by c plan old mid new r before after (Err e) event begun same longer = read_stops by c plan old mid new r before after (Err e) event begun same longer
 
 -- bytes that were got for a piece, and none

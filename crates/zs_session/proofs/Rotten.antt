@@ -1,6 +1,6 @@
 -- A `rot`: the calls on its device, and the line.
 use Rattle.std.proofs.Common.{◌≡◌, ℕ, List, [], ◌∷◌, ◌++◌, length, map, inl, inr, Option, Some, None, option_map, refl, sym, ◌∙◌, ap, subst}
-use Rattle.std.specs.Prelude.{Result, Ok, Err, OnErr, IsErrOf}
+use Rattle.std.specs.Prelude.{Result, Ok, Err, OnErr}
 use Rattle.std.proofs.lemmas.Result.{on_err_weaker}
 use Rattle.std.proofs.lemmas.Bool.{cases_eq}
 use Rattle.std.proofs.lemmas.List.{length-map}
@@ -15,7 +15,6 @@ use Rattle.zs_lane.specs.Children.{DeviceView, GoesOn, OnlyOn, Called, Marked}
 use Rattle.zs_lane.proofs.GoingOn.{gains_twice, goes_on_stays}
 use Rattle.zs_io.specs.declared.fault.BayFault.{BayFault}
 use Rattle.zs_io.specs.declared.fault.BayFault.TheVariants as faults
-use Rattle.zs_machine.specs.History.{text_of}
 use Rattle.zs_core.specs.View.{PoolView}
 use Rattle.zs_session.specs.Devices.{Journals, AreLonger, journals, SetGoesOn}
 use Rattle.zs_session.specs.Plays.{Gains, Halts, complement}
@@ -67,15 +66,8 @@ rots_on dev at len n m k l bytes a b c d long first in_first second in_second th
 
 -- a line that ends after calls, of which no event tells where it stops
 pub stops_told : {T : Type 0} (r : Result T BayFault) (old new : PoolView) (before after : Journals) → AreLonger before after → WantsMemory old new r → StopsLine old new before after r
-stops_told r old new before after longer wants = record {
-  silent = no_device r wants.memory;
-  went_on = on_err_weaker r further (wants.went_on before);
-}
+stops_told r old new before after longer wants = record { went_on = on_err_weaker r further (wants.went_on before) }
   where
-    no_device : {U : Type 0} (r : Result U BayFault) → OnErr r (r ≡ Err faults.Memory) → IsErrOf r faults.Failed → text_of new.history ≡ text_of old.history
-    no_device (Ok x) memory failed = cc
-    no_device (Err e) memory failed = cc
-
     further : Halts old new before before [] → Halts old new before after []
     further halts = record { mid = halts.mid; went = halts.went; further = longer_twice halts.mid before after halts.further longer }
 

@@ -91,6 +91,12 @@ part_rest start mid end old new rest cs goes is was part =
     let more : rest ≡ goes.more = is ∙ (ap (λ es. drop (length old) es) goes.is ∙ drop-append_seam old goes.more) in
     part_more start mid end old goes.more new goes.is was (subst (λ (es : List Event). PutsPart (text_of es) mid end) more part)
 
+-- the same, where all of it was put
+pub puts_rest : (start mid end : Option (List ℕ)) (old new rest : List Event) (cs : List Command) → Continues old new cs → rest ≡ drop (length old) new → Puts (text_of old) start mid → Puts (text_of rest) mid end → Puts (text_of new) start end
+puts_rest start mid end old new rest cs goes is was put =
+    let more : rest ≡ goes.more = is ∙ (ap (λ es. drop (length old) es) goes.is ∙ drop-append_seam old goes.more) in
+    puts_more start mid end old goes.more new goes.is was (subst (λ (es : List Event). Puts (text_of es) mid end) more put)
+
 -- the text of some events was put, which are these
 pub put_all : (start now : Option (List ℕ)) (es fs : List Event) → es ≡ fs → now ≡ option_map (λ b. b ++ text_of es) start → now ≡ option_map (λ b. b ++ text_of fs) start
 put_all start now es fs is was = was ∙ ap (λ (x : List Event). option_map (λ b. b ++ text_of x) start) is

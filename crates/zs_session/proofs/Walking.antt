@@ -15,12 +15,12 @@ use Rattle.zs_phys.specs.Turn.Comes.{rests}
 use Rattle.zs_scan.specs.declared.batch.Turn.{Turn}
 use Rattle.zs_scan.specs.declared.batch.Turn.TheVariants as turns
 use Rattle.zs_scan.specs.View.{ScanView}
-use Rattle.zs_scan.specs.Walks.{Walked, IsFull, PutIf, item_put, turn_of}
+use Rattle.zs_scan.specs.Walks.{Walked, IsFull, PutIf, is_due, item_put, turn_of}
 use Rattle.zs_scan.specs.Steps.{IsComplete}
 use Rattle.zs_walk.specs.Left.{turns_left}
 use Rattle.zs_core.specs.Safe.{IsSafe}
 use Rattle.zs_core.specs.View.{CoreView}
-use Rattle.zs_session.specs.Batches.{GoesOnScanning, StandsStill}
+use Rattle.zs_session.specs.Batches.{GoesOnScanning, IsTimedAs, StandsStill}
 
 -- where just the run changed, and back, nothing did
 run_back : (old new : ScanView) → new.run ≡ old.run → record new { run = old.run } ≡ old → new ≡ old
@@ -59,6 +59,15 @@ put_flight : (old new : ScanView) (item : Option Item) → PutIf old item new �
 put_flight old new None puts = ap (λ (v : ScanView). v.flight) puts
 put_flight old new (Some item) puts = ap (λ (v : ScanView). v.flight) puts.rest
 
+-- and so does when the next checkpoint is due
+put_saved : (old new : ScanView) (item : Option Item) → PutIf old item new → new.saved ≡ old.saved
+put_saved old new None puts = ap (λ (v : ScanView). v.saved) puts
+put_saved old new (Some item) puts = ap (λ (v : ScanView). v.saved) puts.rest
+
+put_every : (old new : ScanView) (item : Option Item) → PutIf old item new → new.every ≡ old.every
+put_every old new None puts = ap (λ (v : ScanView). v.every) puts
+put_every old new (Some item) puts = ap (λ (v : ScanView). v.every) puts.rest
+
 -- the batches in flight stay at a turn
 pub flight_stays : (g : Graph) (old new : ScanView) (turn : Turn) → Walked g old turn new → new.flight ≡ old.flight
 flight_stays g old new turn walked = put_flight old (record new { run = old.run }) (item_put old walked.step) walked.puts
@@ -68,6 +77,7 @@ pub walk_keeps : (old new : CoreView) (turn : Turn) → new ≡ record old { sca
 walk_keeps old new turn core walked =
     let keeps = turn_keeps old.state.graph old.scan.scope old.scan.run walked.step in
     record {
+      time = record { applied = ap (λ (v : CoreView). v.state.applied) core; saved = put_saved old.scan (record new.scan { run = old.scan.run }) (item_put old.scan walked.step) walked.puts; every = put_every old.scan (record new.scan { run = old.scan.run }) (item_put old.scan walked.step) walked.puts; tasks = ap (λ (v : CoreView). v.state.open_txg.tasks) core };
       graph = ap (λ (v : CoreView). v.state.graph) core;
       status = ap (λ (s : Phys). s.status) walked.becomes ∙ keeps.0;
       paused = ap (λ (s : Phys). s.paused) walked.becomes ∙ keeps.1;
@@ -75,7 +85,11 @@ walk_keeps old new turn core walked =
 
 -- and where nothing changed
 pub same_keeps : (old new : CoreView) → new ≡ old → GoesOnScanning old new
-same_keeps old new is = record { graph = ap (λ (v : CoreView). v.state.graph) is; status = ap (λ (v : CoreView). v.scan.run.status) is; paused = ap (λ (v : CoreView). v.scan.run.paused) is }
+same_keeps old new is = record { time = record { applied = ap (λ (v : CoreView). v.state.applied) is; saved = ap (λ (v : CoreView). v.scan.saved) is; every = ap (λ (v : CoreView). v.scan.every) is; tasks = ap (λ (v : CoreView). v.state.open_txg.tasks) is }; graph = ap (λ (v : CoreView). v.state.graph) is; status = ap (λ (v : CoreView). v.scan.run.status) is; paused = ap (λ (v : CoreView). v.scan.run.paused) is }
+
+-- and where its walk stands where it stood
+pub goes_judged : (old new : CoreView) → IsTimedAs old new → new.state.graph ≡ old.state.graph → new.scan.run ≡ old.scan.run → GoesOnScanning old new
+goes_judged old new time graph run = record { time = time; graph = graph; status = ap (λ (s : Phys). s.status) run; paused = ap (λ (s : Phys). s.paused) run }
 
 -- where just the scan changed and it is as it was, nothing changed
 pub same_core : (old new : CoreView) → new ≡ record old { scan = new.scan } → new.scan ≡ old.scan → new ≡ old
@@ -92,7 +106,7 @@ at_end s (paused is) walks = let apart : true ≡ false = sym is ∙ walks.goes_
 at_end s (none_left nowhere empty) walks = (nowhere, empty)
 
 -- a walk that was refused as full at once has pieces that wait
-pub full_walk : (start now : CoreView) → IsSafe start → (now ≡ start) ⊎ (turns_left now.state.graph now.scan.run < turns_left start.state.graph start.scan.run) → IsFull now.state.graph now.scan → turns_left now.state.graph now.scan.run < turns_left start.state.graph start.scan.run + min 1 (length start.scan.waiting)
+pub full_walk : (start now : CoreView) → IsSafe start → (now ≡ start) ⊎ (turns_left now.state.graph now.scan.run < turns_left start.state.graph start.scan.run) → IsFull now.state.graph now.state.applied now.scan → turns_left now.state.graph now.scan.run < turns_left start.state.graph start.scan.run + min 1 (length start.scan.waiting)
 full_walk start now safe (inl same) full =
     let many : length start.scan.waiting ≡ start.shape.limit = ap (λ (v : CoreView). length v.scan.waiting) (sym same) ∙ (full.none_left ∙ (ap (λ (v : CoreView). v.scan.limit) same ∙ safe.limit)) in
     let some : 1 ≤ length start.scan.waiting = subst (λ (n : ℕ). 1 ≤ n) (sym many) safe.shaped.shape.limit.0 in
@@ -109,9 +123,21 @@ fewer_turns start old new (inr fewer) less = inr (omega (arith, fewer, less))
 pub turns_same : (old mid new : CoreView) → new ≡ mid → mid ≡ old → new ≡ old
 turns_same old mid new second first = second ∙ first
 
+-- the next checkpoint is due as it was over two calls
+pub timed_twice : (old mid new : CoreView) → IsTimedAs old mid → IsTimedAs mid new → IsTimedAs old new
+timed_twice old mid new first second = record { applied = second.applied ∙ first.applied; saved = second.saved ∙ first.saved; every = second.every ∙ first.every; tasks = second.tasks ∙ first.tasks }
+
+-- so it is where nothing changed
+pub timed_same : (v : CoreView) → IsTimedAs v v
+timed_same v = record { applied = refl; saved = refl; every = refl; tasks = refl }
+
+-- a checkpoint that is due for a scan that runs is due for it still
+pub still_due : (old new : CoreView) → IsTimedAs old new → old.scan.run.status ≡ new.scan.run.status → is_due new.state.applied new.scan ≡ is_due old.state.applied old.scan
+still_due old new time status = rw (time.applied, time.saved, time.every, status) refl
+
 -- a scan stands still twice
 pub still_twice : (old mid new : CoreView) → StandsStill old mid → StandsStill mid new → StandsStill old new
-still_twice old mid new first second = record { graph = second.graph ∙ first.graph; run = second.run ∙ first.run; flight = λ none. second.flight (first.flight none) }
+still_twice old mid new first second = record { time = timed_twice old mid new first.time second.time; graph = second.graph ∙ first.graph; run = second.run ∙ first.run; flight = λ none. second.flight (first.flight none) }
 
 -- a scan that walked to its end, and of which nothing waits or flies, is complete
 pub is_complete : (mid new : CoreView) → StandsStill mid new → IsWalking mid.scan.run → mid.scan.flight ≡ [] → (mid.scan.run.at ≡ ats.Nowhere) × (mid.scan.run.todo ≡ []) → new.scan.waiting ≡ [] → IsComplete new.scan

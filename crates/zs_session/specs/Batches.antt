@@ -64,14 +64,23 @@ abbrev pub entries_of : Step → List Entry
 entries_of (step.Verdict number pieces made) = made
 entries_of _ = []
 
+-- the next checkpoint is due when it was, and the same tasks are queued
+pub record IsTimedAs (old new : CoreView) : Type 0 where
+  pub applied : new.state.applied ≡ old.state.applied
+  pub saved : new.scan.saved ≡ old.scan.saved
+  pub every : new.scan.every ≡ old.scan.every
+  pub tasks : new.state.open_txg.tasks ≡ old.state.open_txg.tasks
+
 -- a scan goes on as it did: over the same datasets, and running or paused as it was
 pub record GoesOnScanning (old new : CoreView) : Type 0 where
+  pub time : IsTimedAs old new
   pub graph : new.state.graph ≡ old.state.graph
   pub status : new.scan.run.status ≡ old.scan.run.status
   pub paused : new.scan.run.paused ≡ old.scan.run.paused
 
 -- a scan's walk stands where it stood, and where nothing was in flight nothing is
 pub record StandsStill (old new : CoreView) : Type 0 where
+  pub time : IsTimedAs old new
   pub graph : new.state.graph ≡ old.state.graph
   pub run : new.scan.run ≡ old.scan.run
   pub flight : old.scan.flight ≡ [] → new.scan.flight ≡ []

@@ -11,7 +11,7 @@ use Rattle.zs_machine.specs.declared.event.Event.{Event}
 use Rattle.zs_machine.specs.declared.event.Step.{Step}
 use Rattle.zs_machine.specs.declared.event.Step.TheVariants as step
 use Rattle.zs_machine.specs.Finishing.{Phase, phase_of, phase_after, walked, held}
-use Rattle.zs_machine.specs.Finishing.Phase.{walking, issuing, drained}
+use Rattle.zs_machine.specs.Finishing.Phase.{walking, issuing, drained, ended, again}
 use Rattle.zs_machine.specs.Told.{TellsSync, line_steps}
 use Rattle.zs_core.specs.View.{CoreView, PoolView}
 use Rattle.zs_session.specs.Devices.{Journals}
@@ -19,33 +19,71 @@ use Rattle.zs_session.specs.Plays.{PutsBlocks, Went}
 use Rattle.zs_session.specs.Session.{Stops}
 use Rattle.zs_session.specs.declared.turns.Turned.{Turned}
 use Rattle.zs_session.specs.declared.turns.Turned.TheVariants as turned
+use Rattle.zs_session.specs.declared.turns.Stop.{Stop}
+use Rattle.zs_session.specs.declared.turns.Stop.TheVariants as stop
+use Rattle.zs_phys.specs.Turn.{IsWalking}
+use Rattle.zs_scan.specs.Walks.{is_due}
 
 -- how far a `finish` has come whose steps stand at the end of a history
 abbrev pub phase_at : List Event → Phase
 phase_at es = phase_of (line_steps es)
 
+-- the two rounds of a `finish`
+pub data Round : Type 0 where
+  first : Round
+  second : Round
+
+-- how far a `finish` has come in a round
+abbrev pub in_round : Round → Phase → Phase
+in_round first p = p
+in_round second p = again p
+
 -- a turn of the walk may come next
-abbrev pub MayWalk : Phase → Type 0
-MayWalk p = (turn : Turn) → phase_after p (step.Walk turn) ≡ walked turn
+abbrev pub MayWalk : Round → Phase → Type 0
+MayWalk r p = (turn : Turn) → phase_after p (step.Walk turn) ≡ in_round r (walked turn)
 
 -- a batch of the one mirror may be taken next, with the walk over or not
-abbrev pub MayHold : Bool → Phase → Type 0
-MayHold over p = (number online : ℕ) (pieces : List Piece) → phase_after p (step.Hold number 0 online pieces) ≡ held over 0 number pieces
+abbrev pub MayHold : Round → Bool → Phase → Type 0
+MayHold r over p = (number online : ℕ) (pieces : List Piece) → phase_after p (step.Hold number 0 online pieces) ≡ in_round r (held over 0 number pieces)
 
--- how far it has come after a turn; none was made that would be refused as full
-abbrev pub turned_to : Turned → Phase → Phase
-turned_to turned.Made p = walking
-turned_to turned.Nothing p = issuing true 0
-turned_to turned.Full p = p
+-- the walk may go on in the round: a turn may come next, or a batch
+pub record MayGo (r : Round) (p : Phase) : Type 0 where
+  pub walk : MayWalk r p
+  pub hold : MayHold r false p
+
+-- how far it has come after a turn; none was made that would be refused
+abbrev pub turned_to : Round → Turned → Phase → Phase
+turned_to r turned.Made p = in_round r walking
+turned_to r turned.Nothing p = in_round r (issuing true 0)
+turned_to r turned.Full p = p
+turned_to r turned.Due p = p
 
 -- a turn of the walk that may come next leads there
 abbrev pub TurnsTo : Turned → List Event → List Event → Type 0
-TurnsTo turned old new = MayWalk (phase_at old) → phase_at new ≡ turned_to turned (phase_at old)
+TurnsTo turned old new = (r : Round) → MayWalk r (phase_at old) → phase_at new ≡ turned_to r turned (phase_at old)
 
 -- how far it has come after a batch was taken and checked, or none waited
-abbrev pub checked_to : Bool → Bool → Phase
-checked_to over true = issuing over 0
-checked_to over false = drained over 1
+abbrev pub checked_to : Round → Bool → Bool → Phase
+checked_to r over true = in_round r (issuing over 0)
+checked_to r over false = in_round r (drained over 1)
+
+-- the walk is over
+abbrev pub is_over : Stop → Bool
+is_over stop.Over = true
+is_over stop.Full = false
+is_over stop.Due = false
+
+-- a sync was committed behind a round's end
+abbrev pub EndsRound : List Event → List Event → Type 0
+EndsRound old new = (r : Round) (over : Bool) (least : ℕ) → phase_at old ≡ in_round r (drained over least) → phase_at new ≡ in_round r ended
+
+-- the second round of a `finish` may begin: a scan walks, with no batch in flight, for which no checkpoint is due; and no task is
+-- queued
+pub record MayFinish (v : CoreView) : Type 0 where
+  pub runs : IsWalking v.scan.run
+  pub landed : v.scan.flight ≡ []
+  pub in_time : is_due v.state.applied v.scan ≡ false
+  pub untasked : v.state.open_txg.tasks ≡ []
 
 -- a line made one sync more: it was refused, or its data were written and it was committed
 pub record AddsSync (old new : List Step) : Type 0 where

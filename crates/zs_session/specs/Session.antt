@@ -8,7 +8,7 @@ use Rattle.zs_machine.specs.Commands.{commands_of}
 use Rattle.zs_machine.specs.History.{text_of}
 use Rattle.zs_io.specs.Faults.{Rose}
 use Rattle.zs_io.specs.declared.fault.BayFault.{BayFault}
-use Rattle.zs_io.specs.declared.fault.BayFault.TheVariants.{Failed, Memory}
+use Rattle.zs_io.specs.declared.fault.BayFault.TheVariants.{Memory}
 use Rattle.zs_script.specs.declared.command.Command.{Command}
 use Rattle.zs_script.specs.declared.command.Command.TheVariants as commands
 use Rattle.zs_script.specs.declared.command.Line.{Line}
@@ -63,14 +63,12 @@ pub record Stops {T E : Type 0} (old new : PoolView) (before after : Journals) (
   pub silent : OnErr result (text_of new.history ≡ text_of old.history)
   pub went_on : OnErr result (Halts old new before after [])
 
--- a line that stops has no command yet, and where a device stopped it no reply
+-- a line that stops has no command yet
 pub record StopsLine {T : Type 0} (old new : PoolView) (before after : Journals) (result : Result T BayFault) : Type 0 where
-  pub silent : IsErrOf result Failed → text_of new.history ≡ text_of old.history
   pub went_on : OnErr result (Halts old new before after [])
 
--- a line that may stop behind its command has a beginning of these, and no reply where a device stopped it
+-- a line that may stop behind its command has a beginning of these
 pub record StopsIn {T : Type 0} (old new : PoolView) (before after : Journals) (commands : List Command) (result : Result T BayFault) : Type 0 where
-  pub silent : IsErrOf result Failed → text_of new.history ≡ text_of old.history
   pub went_on : OnErr result (HaltsPart old new before after commands)
 
 -- what calls no device stops only for want of memory, and then has no command

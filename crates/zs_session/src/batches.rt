@@ -9,7 +9,7 @@ ghost use Rattle.zs_machine.specs.Told.{issued_of, TellsIssue, line_steps};
 ghost use Rattle.zs_session.specs.Devices.{Calls, AreDevicesOf, LiesOn, LieOn, journals};
 ghost use Rattle.zs_session.specs.Session.{IsUp, IsReady, Passes, StopsLine, WantsMemory};
 ghost use Rattle.zs_session.specs.Plays.{Went, WentAlone, AreChecks, ChecksItem};
-ghost use Rattle.zs_session.specs.Batches.{HadVerdict, TookLowest, entries_of};
+ghost use Rattle.zs_session.specs.Batches.{IsTimedAs, HadVerdict, TookLowest, entries_of};
 
 use crate::lines::end_line;
 use crate::rig::Rig;
@@ -78,6 +78,7 @@ pub fn judge<C: Children>(
     ensures goes_on { OnOk result (Went pool.old pool.new (journals (C.device rig.old.set)) (journals (C.device rig.new.set)) []) }
     ensures verdict { IfOk result (λ many. HadVerdict by pool.old batch.now many pool.new) }
     ensures graph { OnOk result (pool.new.core.state.graph ≡ pool.old.core.state.graph) }
+    ensures time { OnOk result (IsTimedAs pool.old.core pool.new.core) }
     ensures up { OnOk result (IsUp pool.new) }
     ensures err { OnErr result (pool.new ≡ pool.old) }
     ensures memory { OnErr result (result ≡ Err BayFault.Memory) }

@@ -137,6 +137,9 @@ pub fn run_line<C: Children>(
         | Command::Destroy { .. }
         | Command::Swap { .. }
         | Command::Scrub
+        | Command::Pause
+        | Command::Resume
+        | Command::Stop
         | Command::Make { .. }
         | Command::Write { .. }
         | Command::Errors

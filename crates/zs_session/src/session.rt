@@ -82,7 +82,7 @@ fn put_events<K: Sink>(alloc: Global, events: &[Event], out: &mut K) -> Result<(
     Ok(())
 }
 
-/// Runs a line and puts its reply.
+/// Runs a line and puts its reply; where a device stops it, what it replied before.
 fn take_line<C: Children, K: Sink>(
     alloc: Global,
     pool: &mut Pool,
@@ -105,7 +105,13 @@ fn take_line<C: Children, K: Sink>(
     let before = pool.history().len();
     match run_line(alloc, pool, rig, line) {
         Ok(()) => {}
-        Err(BayFault::Failed) => return Err(Stop::Device),
+        Err(BayFault::Failed) => {
+            pool.facts();
+            return match put_events(alloc, &pool.history()[before..], out) {
+                Ok(()) => Err(Stop::Device),
+                Err(stop) => Err(stop),
+            };
+        }
         Err(BayFault::Memory) => return Err(Stop::Memory),
     }
     pool.facts();

@@ -25,13 +25,26 @@ pub enum Turned {
     Nothing,
     /// It would put a piece, and as many wait as may.
     Full,
+    /// A checkpoint is due.
+    Due,
+}
+
+/// Why a walk that was to go on stopped.
+#[derive(Clone, Copy, Debug, PartialEq, Eq)]
+pub enum Stop {
+    /// Nothing is left to walk.
+    Over,
+    /// The next turn would put a piece, and as many wait as may.
+    Full,
+    /// A checkpoint is due.
+    Due,
 }
 
 /// Whether a turn found something to walk.
 fn outcome_of(turn: Turn) -> Turned
     ensures made { result ≡ Turned.Made → turn ≢ Turn.Nothing }
     ensures none { result ≢ Turned.Made → turn ≡ Turn.Nothing }
-    ensures full { result ≢ Turned.Full }
+    ensures refused { (result ≢ Turned.Full) × (result ≢ Turned.Due) }
 {
     match turn {
         Turn::Nothing => Turned::Nothing,
@@ -54,6 +67,7 @@ pub fn turn(pool: &mut Pool, by: u8) -> Result<Turned, BayFault>
     match pool.walk(by) {
         Ok(turn) => Ok(outcome_of(turn)),
         Err(ScanFault::Full) => Ok(Turned::Full),
+        Err(ScanFault::Draining) => Ok(Turned::Due),
         Err(
             ScanFault::Memory
             | ScanFault::ScanBusy
@@ -64,7 +78,7 @@ pub fn turn(pool: &mut Pool, by: u8) -> Result<Turned, BayFault>
     }
 }
 
-/// Makes turns of the walk until so many were made, none is left or the next one is refused as full. Fails only for want
+/// Makes turns of the walk until so many were made, none is left or the next one is refused. Fails only for want
 /// of memory.
 fn make_turns(pool: &mut Pool, by: u8, most: u32) -> Result<(u32, WalkEnd), BayFault>
     requires ready { IsReady pool.old }
@@ -80,6 +94,7 @@ fn make_turns(pool: &mut Pool, by: u8, most: u32) -> Result<(u32, WalkEnd), BayF
             Turned::Made => {}
             Turned::Nothing => return Ok((made, WalkEnd::Nothing)),
             Turned::Full => return Ok((made, WalkEnd::Full)),
+            Turned::Due => return Ok((made, WalkEnd::Draining)),
         }
     }
     Ok((most, WalkEnd::More))

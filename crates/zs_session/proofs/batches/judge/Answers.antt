@@ -3,6 +3,7 @@ use Rattle.std.proofs.Common.{List, refl, sym, subst, ap}
 use Rattle.zs_ids.specs.declared.block.Item.{Item}
 use Rattle.zs_machine.specs.declared.shape.Shape.{Shape}
 use Rattle.zs_core.specs.View.{CoreView}
+use Rattle.zs_scan.specs.View.{ScanView}
 use Rattle.zs_session.specs.Devices.{LieOn}
 use Rattle.zs_session.proofs.Checks.{are_of, same_checks}
 use Rattle.zs_session.proofs.Judged.{had, went_judged}
@@ -26,3 +27,13 @@ pub returns-clause-verdict : goal.returns-clause-verdict
 returns-clause-verdict g c =
     had _ _ _ _ _ _ c.in_ok-verdict.ensures.judged c.requires.flies refl
     (are_of _ _ _ _ _ _ (same_checks _ _ _ _ _ _ _ _ c.as_slice.ensures c.from_vec.ensures c.in_ok-entries.ensures.checks))
+
+pub returns-clause-time : goal.returns-clause-time
+returns-clause-time g c =
+    let judged = (returns-clause-verdict g c).judged.rest in
+    record {
+      applied = ap (λ (v : CoreView). v.state.applied) c.verdict.ensures.core;
+      saved = ap (λ (v : ScanView). v.saved) judged;
+      every = ap (λ (v : ScanView). v.every) judged;
+      tasks = ap (λ (v : CoreView). v.state.open_txg.tasks) c.verdict.ensures.core;
+    }

@@ -15,12 +15,12 @@ loop-preserved g c = record {
   goes_on = went_after _ _ _ _ _ _ _ c.loop.invariant.goes_on c.in_ok-check_next.ensures.goes_on;
   silent = c.check_next.ensures.passes.silent ∙ c.loop.invariant.silent;
   still = still_twice _ _ _ c.loop.invariant.still c.in_ok-check_next.ensures.still;
-  phase = λ over may. holds_on _ over (c.in_ok-check_next.ensures.phase over (c.loop.invariant.phase over may) ∙ ap (checked_to over) c.if-branch.true);
+  phase = λ r over may. holds_on r _ over (c.in_ok-check_next.ensures.phase r over (c.loop.invariant.phase r over may) ∙ ap (checked_to r over) c.if-branch.true);
   calls = set_twice _ _ _ _ _ _ c.loop.invariant.calls c.in_ok-check_next.ensures.calls.set;
 }
 
 pub returns-clause-phase : goal.returns-clause-phase
-returns-clause-phase g c over may = c.in_ok-check_next.ensures.phase over (c.loop.invariant.phase over may) ∙ ap (checked_to over) c.if-branch.false
+returns-clause-phase g c r over may = c.in_ok-check_next.ensures.phase r over (c.loop.invariant.phase r over may) ∙ ap (checked_to r over) c.if-branch.false
 
 pub returns-clause-goes_on : goal.returns-clause-goes_on
 returns-clause-goes_on g c = went_after _ _ _ _ _ _ _ c.loop.invariant.goes_on c.in_ok-check_next.ensures.goes_on

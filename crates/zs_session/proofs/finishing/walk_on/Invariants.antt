@@ -3,7 +3,8 @@ use Rattle.zs_phys.specs.Turn.{IsWalking}
 use Rattle.zs_machine.specs.History.{text_of}
 use Rattle.zs_session.specs.Session.{IsUp}
 use Rattle.zs_session.specs.Plays.{WentAlone}
-use Rattle.zs_session.specs.Finish.{MayWalk, phase_at, walk_left}
+use Rattle.zs_session.specs.Batches.{IsTimedAs}
+use Rattle.zs_session.specs.Finish.{MayGo, Round, phase_at, walk_left}
 use Rattle.zs_session.proofs.finishing.walk_on.Given as goal
 
 abbrev pub invariant-loop : goal.invariant-loop
@@ -13,7 +14,8 @@ invariant-loop l = record {
   silent : text_of l.pool.history ≡ text_of l.initial.pool.history;
   runs : IsWalking l.pool.core.scan.run;
   landed : l.pool.core.scan.flight ≡ [];
-  phase : MayWalk (phase_at l.pool.history);
+  time : IsTimedAs l.initial.pool.core l.pool.core;
+  phase : (r : Round) → MayGo r (phase_at l.initial.pool.history) → MayGo r (phase_at l.pool.history);
   fewer : (l.pool.core ≡ l.initial.pool.core) ⊎ (walk_left l.pool.core < walk_left l.initial.pool.core);
 }
 

@@ -4,6 +4,7 @@ use Rattle.zs_scan.specs.Flight.{first_of}
 use Rattle.zs_scan.specs.View.{ScanView}
 use Rattle.zs_session.proofs.Histories.{silent_adds}
 use Rattle.zs_session.proofs.Judged.{fewer_land}
+use Rattle.zs_session.proofs.Walking.{goes_judged}
 use Rattle.zs_session.proofs.landing.land_next.Goals as goal
 
 pub returns-clause-next : goal.returns-clause-next
@@ -17,3 +18,6 @@ returns-clause-next g c =
 
 pub returns-clause-silent : goal.returns-clause-silent
 returns-clause-silent g c = silent_adds _ _ _ _ c.in_ok-judge.ensures.verdict.event
+
+pub returns-clause-scan : goal.returns-clause-scan
+returns-clause-scan g c = goes_judged _ _ c.in_ok-judge.ensures.time c.in_ok-judge.ensures.graph (ap (λ (v : ScanView). v.run) c.in_ok-judge.ensures.verdict.judged.rest)

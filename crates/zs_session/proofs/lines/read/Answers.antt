@@ -30,7 +30,6 @@ returns-in-Err-Refused-clause-goes_on g c =
 
 pub returns-in-Err-Memory-clause-stops : goal.returns-in-Err-Memory-clause-stops
 returns-in-Err-Memory-clause-stops g c = record {
-  silent = λ failed. cc;
   went_on = part_same _ _ _ _ _ (c.in-Err-Memory.ensures.memory (ap Err c.in-Err-Memory.field-0-is)) (longer_none (journals (g.C.Children.device c.args.rig.now.set)));
 }
 

@@ -13,7 +13,7 @@ use Rattle.zs_session.proofs.lines.run_line.Goals as goal
 
 -- a line that stops has none of its commands
 stops_in : {T : Type 0} (r : Result T BayFault) (old new : PoolView) (before after : Journals) (cs : List Command) → StopsLine old new before after r → StopsIn old new before after cs r
-stops_in r old new before after cs stops = record { silent = stops.silent; went_on = on_err_weaker r (part_none old new before after cs) stops.went_on }
+stops_in r old new before after cs stops = record { went_on = on_err_weaker r (part_none old new before after cs) stops.went_on }
 
 -- so has one that calls no device
 wants_in : {T : Type 0} (r : Result T BayFault) (old new : PoolView) (js : Journals) (cs : List Command) → WantsMemory old new r → StopsIn old new js js cs r

@@ -20,3 +20,6 @@ loop-made-preserved c = record {
   goes_on = alone_after _ _ _ _ c.loop-made.invariant.goes_on c.in_ok-turn.ensures.goes_on;
   are = c.turn.ensures.counts.made (c.in_ok-turn.was ∙ ap Ok c.in-Made.is) _ c.loop-made.invariant.are;
 }
+
+pub returns-in-Due-clause-goes_on : goal.returns-in-Due-clause-goes_on
+returns-in-Due-clause-goes_on c = alone_after _ _ _ _ c.loop-made.invariant.goes_on c.in_ok-turn.ensures.goes_on
