@@ -3,7 +3,7 @@ import os, re
 
 # Whether checkpoints are made and draining is asked for, and a scan can be paused, resumed and stopped. Without, these lines
 # have no word, and EVERY is read and not used.
-CHECKPOINTS = os.environ.get('CHECKPOINTS', '0') == '1'
+CHECKPOINTS = os.environ.get('CHECKPOINTS', '1') == '1'
 U64 = 2**64-1
 MOST_BYTES = 16777216
 
