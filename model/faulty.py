@@ -1,5 +1,5 @@
 """Lines that are faulty or nearly so, and spellings of a script that change nothing."""
-from lines import CHECKPOINTS
+from lines import CHECKPOINTS, SPACE
 
 BAD = [b'pool 7 2 8 4 64', b'sync x', b'scrub x', b'scrub address', b'   ', b'\tsync', b'sync\t', b'sync\r', b'sy\rnc',
        b'sync\x7f', b'\xffsync', b'# c\xff', b'', b' # x', b'finish 1', b'finish x',
@@ -58,6 +58,12 @@ if CHECKPOINTS:
     BAD += HALTS
     LATER = [l for l in LATER if l not in HALTS]
     LATER += [b'Pause', b'paused', b'pause\t', b'resumes', b'RESUME', b'stopp', b'Stop', b'stop\x00']
+if SPACE:
+    BAD += [b'make a 1 0 512 1', b'make a 1 5 512 1', b'make a 2 5 512 1', b'make a 2 0 512 1', b'make a 2 4 512 1', b'make a 2 3 512 1',
+            b'make a 2 2 131072 1', b'make a 2 01 512 1', b'make a 2 x 512 1', b'make a 2 -1 512 1', b'make a 2 257 512 1', b'make a 2 2',
+            b'make a 2 4294967297 512 1', b'make a 2 5 511 x', b'make a 2 4 511 1', b'make a 2 2 512', b'make a 2 2 512 1 1',
+            b'make a x 5 512 1', b'read a 1 1', b'read a 1 262143', b'read a 1 x', b'hold 8 1', b'issue 8 1', b'issue 7 1', b'hold 2 1024',
+            b'rot 15 296 1', b'rot 16 296 1']
 
 
 def spoil(rng, L):

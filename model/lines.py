@@ -4,6 +4,10 @@ import os, re
 # Whether checkpoints are made and draining is asked for, and a scan can be paused, resumed and stopped. Without, these lines
 # have no word, and EVERY is read and not used.
 CHECKPOINTS = os.environ.get('CHECKPOINTS', '1') == '1'
+# Whether there are up to eight mirrors, objects of up to four levels, and space that is given again; BLOCKS bounds what is live and
+# staged. Without, there is one mirror, LEVELS is 1, each place is the next sector after all that were taken, and BLOCKS is not
+# used but for where the space begins.
+SPACE = os.environ.get('SPACE', '0') == '1'
 U64 = 2**64-1
 MOST_BYTES = 16777216
 
@@ -26,12 +30,13 @@ BATCH = num(1, 1024)
 PAUSES = {b'pause': [], b'resume': [], b'stop': []}
 TASKS = {b'fs': [NAME], b'snap': [NAME, NAME], b'clone': [DS, NAME], b'destroy': [DS], b'swap': [NAME, NAME], b'scrub': []} | PAUSES
 LINES = {b'pool': [num(0, U64), num(1, 4), num(1, 65536), num(1, 1000), blocks],
-         b'make': [DS, OBJ, num(1, 1), pow2, FILL], b'write': [DS, OBJ, LEAF, FILL], b'read': [DS, OBJ, LEAF],
+         b'make': [DS, OBJ, num(1, 4), pow2, FILL], b'write': [DS, OBJ, LEAF, FILL], b'read': [DS, OBJ, LEAF],
          b'sync': [], b'finish': [], b'walk': [num(1, 1000000)], b'issue': [VDEV, BATCH], b'hold': [VDEV, BATCH], b'land': [],
          b'status': [], b'list': [], b'errors': [], b'rot': [VDEV, num(0, 2097151), num(1, 65536)]} | TASKS
+FLAT = {b'make': [DS, OBJ, num(1, 1), pow2, FILL]}  # where space is as before
 
 
-def parse(s, checkpoints):
+def parse(s, checkpoints, space):
     """('ok', the lines, each a command word and the words after it), or ('bad', the number of the line, the fault)."""
     pos = 0
     parts = s.split(b'\n')
@@ -49,7 +54,7 @@ def parse(s, checkpoints):
         words = [w for w in t.split(b' ') if w]
         if any(not 32 <= c <= 126 for c in t) or not words: return ('bad', i+1, 'Word')
         c, *a = words
-        spec = LINES.get(c)
+        spec = LINES.get(c) if space else FLAT.get(c, LINES.get(c))
         if spec is None or (c == b'scrub' and a) or (c in PAUSES and not checkpoints): return ('bad', i+1, 'Word')
         if (c == b'pool') != (not out): return ('bad', i+1, 'Order')
         if len(a) != len(spec): return ('bad', i+1, 'Count')

@@ -1,5 +1,6 @@
 """Worked examples: a script and what it prints, and what stands in the cached state after it."""
 import itertools
+import generated, spaced
 from pool import answer, run
 
 B7 = 'pool 7 2 8 4 64; fs a; sync; make a 1 1 512 5; sync'
@@ -23,10 +24,6 @@ ROWS = [
     ('a full queue', 512, f'{B1}; {START}; walk 100; issue 0 10; walk 100; issue 0 10; walk 100',
      f'{B_OUT}; {START_OUT}; walk 4 full waiting 1; issue 0 1 296:GG; walk 1 full waiting 1; issue 0 1 304:GG;'
      'walk 2 nothing waiting 1'),
-    ('freed pieces in flight', 330,
-     f'{B7}; {START}; walk 100; hold 0 10; write a 1 0 6; sync; write a 1 0 7; land; write a 1 0 7; sync',
-     f'{B_OUT}; {START_OUT}; walk 7 nothing waiting 3; hold 0 3 296 304 312; wrote a 1 0 5; sync 5; refused NoSpace;'
-     'land 0 0/296:- 0/304:- 0/312:-; refused NoSpace; sync 6; finished scrub 0 0'),
     ('refusals', 512, f'{B7}; write a 1 1 6; make a 1 1 512 6; write z 1 0 6; write a 2 0 6',
      f'{B_OUT}; refused PastEnd; refused ObjectThere; refused NoDataset; refused NoObject'),
     ('an unknown word', 512, 'pool 7 2 8 4 64; wri a', 'script 2 Word'),
@@ -42,8 +39,6 @@ ROWS = [
      'wrote a 1 0 5; sync 5;'
      'txg 6; scan scrub scanning checked 0 errors 0 waiting 0 flight 0; range 0 4; at a 0.0.0.2 pass 1 4; todo;'
      'sync 6; finished scrub 0 0; txg 7; scan scrub finished checked 0 errors 0 waiting 0 flight 0'),
-    ('no scan', 512, 'pool 7 2 8 4 64; walk 5; issue 3 7; hold 0 2; land; finish; status',
-     'pool 7 mirrors 1 txg 1; walk 0 nothing waiting 0; issue 3 0; hold 0 0; land 0; refused NoScan; txg 2; scan none'),
     ('a copy that is rewritten', 512, f'{B7}; rot 1 312 1; {START}; walk 100; issue 0 10; sync; errors; scrub; sync; walk 100; issue 0 10',
      f'{B_OUT}; rot 1 312 1; {START_OUT}; walk 7 nothing waiting 3; issue 0 3 296:GG 304:GG 312:GR; sync 5; finished scrub 3 0;'
      'errors 0; queued 6 1; sync 6; task 1 ok; walk 7 nothing waiting 3; issue 0 3 296:GG 304:GG 312:GG'),
@@ -158,6 +153,15 @@ ROWS = [
      'land 3 0/296:GG 0/304:GG 0/312:GG 0/313:-; sync 7; finished scrub 3 0'),
 ]
 
+# these are for one mirror, of which no place is given again
+FLAT = [
+    ('freed pieces in flight', 330,
+     f'{B7}; {START}; walk 100; hold 0 10; write a 1 0 6; sync; write a 1 0 7; land; write a 1 0 7; sync',
+     f'{B_OUT}; {START_OUT}; walk 7 nothing waiting 3; hold 0 3 296 304 312; wrote a 1 0 5; sync 5; refused NoSpace;'
+     'land 0 0/296:- 0/304:- 0/312:-; refused NoSpace; sync 6; finished scrub 0 0'),
+    ('no scan', 512, 'pool 7 2 8 4 64; walk 5; issue 3 7; hold 0 2; land; finish; status',
+     'pool 7 mirrors 1 txg 1; walk 0 nothing waiting 0; issue 3 0; hold 0 0; land 0; refused NoScan; txg 2; scan none'),
+]
 # these have a checkpoint that is due, or the tasks on a scan that runs
 HALTING = [
     ('a paused scrub', 512, f'{B7}; {START}; pause; sync; walk 10; finish; scrub; sync; status; finish',
@@ -246,11 +250,16 @@ KEPT = [
 
 
 def split(s): return [l.strip() for l in s.split(';')]
-def ran(script, sectors, checkpoints):
-    """Status, the lines that were printed, the pool, and whether the images of both devices are the same."""
-    imgs = [bytearray(sectors*512), bytearray(sectors*512)]
-    st, out, pool = answer(['step', 'x', 'y'], ('\n'.join(split(script))+'\n').encode(), imgs, True, checkpoints)
-    return st, out.decode().split('\n')[:-1], pool, imgs[0] == imgs[1]
+def ran(script, devices, checkpoints, space):
+    """Status, the lines that were printed, and the pool; devices are their sectors."""
+    imgs = [bytearray(sectors*512) for sectors in devices]
+    st, out, pool = answer(['step']+['x']*len(imgs), ('\n'.join(split(script))+'\n').encode(), imgs, True, checkpoints, space)
+    return st, out.decode().split('\n')[:-1], pool
+
+
+def mirrored(pool):
+    """Both devices of the one mirror have the same bytes."""
+    return pool is None or pool.images[0] == pool.images[1]
 
 
 def kept(pool):
@@ -267,14 +276,24 @@ def holds(name, got, want, so_far=True):
     return ok
 
 
-def rows():
-    """Each example with checkpoints; those without a checkpoint that is due also without."""
+def rows(realistic):
+    """Each example with checkpoints, and with levels, mirrors and space that is given again; those that need none of it also without.
+    The realistic one takes some seconds."""
     oks = [run([], b'', []) == (1, b'usage\n')]
-    for modes, examples in (((False, True), ROWS), ((True,), HALTING)):
+    for modes, examples in (([(0, 0), (1, 0), (1, 1)], ROWS), ([(0, 0), (1, 0)], FLAT), ([(1, 0), (1, 1)], HALTING)):
         for name, sectors, script, want in examples:
-            for checkpoints in modes:
-                st, got, _, same = ran(script, sectors, checkpoints)
-                oks.append(holds(name, got, split(want), same and st == (2 if want.startswith('script') else 0)))
-    for name, script, want in KEPT: oks.append(holds('of what is cached: '+name, kept(ran(script, 512, True)[2]), split(want)))
+            for checkpoints, space in modes:
+                st, got, pool = ran(script, [sectors]*2, checkpoints, space)
+                oks.append(holds(name, got, split(want), mirrored(pool) and st == (2 if want.startswith('script') else 0)))
+    for name, devices, script, want in spaced.ROWS:
+        st, got, _ = ran(script, devices, True, True)
+        oks.append(holds('of space: '+name, got, split(want), st == (3 if want.endswith('Shape') else 0)))
+    oks.append(holds('of space: the bytes of blocks', [], [], spaced.bytes_hold(ran(spaced.BYTES, [512]*2, True, True)[2].images)))
+    for space, examples in ((False, KEPT), (True, KEPT+spaced.KEPT)):
+        for name, script, want in examples:
+            oks.append(holds('of what is cached: '+name, kept(ran(script, [512]*2, True, space)[2]), split(want)))
+    for numbers, want in spaced.GENERATED + (spaced.REALISTIC if realistic else []):
+        got = generated.replies(*numbers)
+        oks.append(holds('of the script of %d and %d' % numbers, [l for l in got if l.startswith('walk')][:want.count('walk')]+got[-4:], split(want)))
     assert all(oks), '%d examples fail' % oks.count(False)
     print('all examples hold')

@@ -1,5 +1,6 @@
 """A scrub: its walk through the datasets, the state that is cached of it, and the pieces that wait, fly and are checked."""
-from datasets import ROOT, Refused
+from datasets import Refused
+from records import ROOT
 
 DESTROYED = 'destroyed'  # where the walk is after its dataset was destroyed
 
@@ -79,17 +80,23 @@ class State:
                 assert not in_scope(b.birth) or b.piece in done or self.ahead(d, k, b.birth), 'not covered'
 
 
+class Batch(list):
+    """What was taken at once: each a piece and whether it still flies."""
+    ended = False  # whether its scan is
+
+
 class Scan:
-    """A piece is a place with a birth. Where EVERY is None no checkpoint is made, and none is due."""
-    def __init__(self, limit, every, datasets, notes):
-        self.limit, self.every, self.datasets, self.notes = limit, every, datasets, notes
+    """A piece is a place with a birth. Where EVERY is None no checkpoint is made, and none is due. Where BLOCKS is None it bounds
+    nothing."""
+    def __init__(self, limit, every, blocks, datasets, notes):
+        self.limit, self.every, self.blocks, self.datasets, self.notes = limit, every, blocks, datasets, notes
         self.run, self.kept = State(), State()  # the running state, and the cached one, from which an opening goes on
         self.min = self.max = 0
         self.ledger = {}        # piece -> letters, in the order of checking
         self.stored = 0         # the first so many of the ledger are stored beside the cached state
         self.saved = 0          # the txg of the last checkpoint, or of the start
         self.waiting = set()
-        self.flight = []        # batches, each a list of [piece, still flying]
+        self.flight = []        # batches that were not landed
 
     @property
     def states(self): return self.run, self.kept
@@ -101,7 +108,10 @@ class Scan:
     def paused(self): return self.run.paused
 
     def in_scope(self, birth): return self.min < birth < self.max
+    def waits(self, v): return sorted(p for p in self.waiting if p.vdev == v)
     def flying(self): return [p for batch in self.flight for p, f in batch if f]
+    def ended(self): return [{p for p, _ in batch} for batch in self.flight if batch.ended]
+    def pinned(self): return [p for batch in self.flight for p, _ in batch]
     def error_list(self): return sorted(p for p, letters in self.ledger.items() if b'B' in letters)
 
     # ---- start, pause and end
@@ -124,6 +134,7 @@ class Scan:
         """Nothing waits or flies any more. The batches stay in flight until they land."""
         self.waiting = set()
         for batch in self.flight:
+            batch.ended = True
             for e in batch: e[1] = False
 
     def pause(self):
@@ -202,14 +213,17 @@ class Scan:
             return 'Skip'
         if run.at is None: return self.enter(*run.todo.pop(0))
         d, key = run.at
-        found = min((k for k, b in d.blocks.items() if k >= key and b.birth > run.curmin), default=None)
+        found = d.next_from(key, run.curmin)
         if found is None: return self.end_pass(d)
         b = d.blocks[found]
         if b.birth <= run.curmax and self.in_scope(b.birth):
             if len(self.waiting) == self.limit: return 'Full'
-            assert b.piece not in self.done(), 'a piece is found twice'
+            assert b.piece not in self.ledger and b.piece not in self.waiting and b.piece not in self.flying(), 'a piece is found twice'
+            if b.piece in self.pinned(): self.notes['At of a piece that a batch of an earlier scan has'] += 1
             self.waiting.add(b.piece)
-        else: self.notes['At of a block that is too young'] += 1
+        else:
+            self.notes['At of a block that is too young'] += 1
+            if len(self.waiting) == self.limit: self.notes['At of a block that is too young, with a full queue'] += 1
         run.at = d, found[:3]+(found[3]+1,)
         return 'At'
 
@@ -287,8 +301,11 @@ class Scan:
     def covers(self):
         done = self.done()
         assert len(done) == len(set(done)), 'a piece twice'
-        assert all(self.in_scope(birth) for _, birth in done), 'a piece out of scope'
+        assert all(self.in_scope(p.birth) for p in done), 'a piece out of scope'
         assert self.datasets.live().issuperset(self.waiting.union(self.flying())), 'a waiting or flying piece is not live'
         assert len(self.waiting) <= self.limit, 'more than LIMIT'
         self.run.covers(self.datasets, self.in_scope, done)
         self.kept.covers(self.datasets, self.in_scope, self.kept_done())
+        if self.blocks is None: return
+        scope = {p for p in self.datasets.live() if self.in_scope(p.birth)}
+        assert all(len(scope.union(e)) <= self.blocks for e in (self.ledger, self.kept_done())), 'more than BLOCKS to check'

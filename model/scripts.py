@@ -2,6 +2,7 @@
 from faulty import decorate, spoil
 from lines import CHECKPOINTS, U64
 from pool import Pool, data_start
+from records import is_record
 
 # weights of the actions; 'vdev' is a batch of another mirror
 ACTS = ['fs', 'make', 'write', 'read', 'sync', 'scrub', 'finish', 'walk', 'walkall', 'issue', 'hold', 'land', 'status', 'vdev',
@@ -35,7 +36,7 @@ class Gen:
         self.lines.append(l)
         c, *a = l.split(b' ')
         try:
-            self.pool.line(c, a)
+            self.last = self.pool.line(c, a)
             self.pool.invariant()
         except AssertionError:
             print(b'\n'.join(self.lines).decode())
@@ -77,7 +78,7 @@ class Gen:
     def obj(self, there, name):
         p = self.pool
         keys = [k for d in p.sets.all.values() if d.name == name for k in d.blocks]
-        got = [k[0] for k in keys + [k for d, k in p.staged if d.name == name] if k[1] == 1]
+        got = [k[0] for k in keys + [k for d, k in p.staged if d.name == name] if is_record(k)]
         if there and got and self.rng.random() < .9: return self.rng.choice(got)
         fresh = [o for o in self.objs if o not in got]
         if not there and fresh and self.rng.random() < .7: return self.rng.choice(fresh)
@@ -121,38 +122,52 @@ class Gen:
     def fill(self): return self.rng.choice([0, 5, U64, self.rng.randrange(2**64), self.rng.randrange(100)])
     def n(self): return self.rng.choice([1, 1, 1, 2, 2, 3, 4, 10, 1024])
 
+    # what there is one of where space is as before
+    def mirror(self): return 0
+    def no_mirror(self): return self.rng.choice([1, 2, 255])
+    def levels(self): return 1
+    def leaf(self, ds, obj): return self.rng.choice([0]*18+[1, 262143])
+    def leaf_to_read(self, ds, obj): return self.rng.choice([0]*12+[1, 262143])
+    def any_mirror(self): return 0
+    def free_run(self, v): return self.pool.space.free_runs(v)[0]
+
     def span(self, kind=None):
-        """Sectors to rot: on what is live, in flight or staged, over several of these, free, or at an edge."""
+        """A mirror and sectors to rot: on what is live, in flight or staged, over several of these, free, or at an edge."""
         rng, p = self.rng, self.pool
-        live = [(q[0], p.items[q][0]) for q in sorted(p.sets.live())]
-        held = [(q[0], p.items[q][0]) for batch in p.scan.flight for q, _ in batch]
-        staged = [(e[0], e[1]) for e in p.staged.values()]
+        live = [p.where(q) for q in sorted(p.sets.live())]
+        held = [p.where(q) for q in p.scan.pinned()]
+        staged = [e.where for e in p.staged.values()]
         kind = kind or rng.choices(['live', 'held', 'staged', 'run', 'free', 'edge'], [14, 6 if held else 0, 2, 2, 1, 2])[0]
-        if kind == 'edge' or (kind == 'free' and p.next == p.end):
-            return rng.choice([(p.start, 1), (p.start-1, 1), (p.start-1, 2), (p.end-1, 1), (p.end-1, 2), (p.end, 1),
-                               (p.start, p.end-p.start), (p.start, p.end-p.start+1), (2097151, 1), (0, 1), (p.start, 65536)])
+        v = self.any_mirror()
+        start, end = p.space.start, p.space.ends[v]
+        if kind == 'edge' or (kind == 'free' and not p.space.free_runs(v)):
+            return (v,)+rng.choice([(start, 1), (start-1, 1), (start-1, 2), (end-1, 1), (end-1, 2), (end, 1),
+                                    (start, end-start), (start, end-start+1), (2097151, 1), (0, 1), (start, 65536)])
         if kind == 'free':
-            sector = rng.randrange(p.next, p.end)
-            return sector, rng.randrange(1, p.end-sector+1)
+            first, last = self.free_run(v)
+            sector = rng.randrange(first, last)
+            return v, sector, rng.randrange(1, last-sector+1)
         spots = {'live': live, 'held': held, 'staged': staged, 'run': live+staged}[kind] or live or staged
-        if not spots: return p.start, rng.choice([1, 8, 20])
-        place, n = rng.choice(spots)
+        if not spots: return v, start, rng.choice([1, 8, 20])
+        v, sector, n = rng.choice(spots)
         if kind == 'run':
-            last, m = max((place, n), rng.choice(spots))
-            place, n = min((place, n), rng.choice(spots))
-            return place, min(last+m-place, 65536)
+            spots = [r[1:] for r in spots if r[0] == v]
+            last, m = max((sector, n), rng.choice(spots))
+            sector, n = min((sector, n), rng.choice(spots))
+            return v, sector, min(last+m-sector, 65536)
         at = rng.randrange(n)
-        return rng.choice([(place, n), (place, n), (place, 1), (place+n-1, 1), (place+at, 1), (place+at, rng.randrange(1, n-at+1)),
-                           (place-1, 2), (place+n-1, 2)])
+        return (v,)+rng.choice([(sector, n), (sector, n), (sector, 1), (sector+n-1, 1), (sector+at, 1),
+                                (sector+at, rng.randrange(1, n-at+1)), (sector-1, 2), (sector+n-1, 2)])
 
     def rot(self, kind=None):
         """One or several lines, over one device or several; some are made twice, so that they restore."""
         rng, W = self.rng, self.pool.W
         if self.rots and rng.random() < .15: which = [rng.choice(self.rots[-6:])]
         else:
-            sector, count = self.span(kind)
+            v, sector, count = self.span(kind)
             devices = list(range(W)) if rng.random() < .35 else rng.sample(range(W), rng.choice([1, 1, max(1, W-1)]))
-            if rng.random() < .02: devices = [rng.choice([W, W+1, 255])]
+            devices = [v*W+d for d in devices]
+            if rng.random() < .02: devices = [rng.choice([len(self.pool.images), len(self.pool.images)+1, 255])]
             which = [(d, sector, min(count, 65536)) for d in devices]
         self.rots += which
         for r in which: self.put(b'rot %d %d %d' % r)
@@ -160,7 +175,7 @@ class Gen:
     def act(self, what):
         rng = self.rng
         p = self.pool
-        if what in ('make', 'write') and p.end-p.next < 20 and rng.random() < .6: what = 'read'
+        if what in ('make', 'write') and p.space.left() < 20 and rng.random() < .6: what = 'read'
         if what == 'write' and not any(d.blocks for d in p.sets.heads()) and rng.random() < .7: what = 'make'
         if what == 'clone' and not p.sets.snapshots() and not self.queued(b'snap') and rng.random() < .7: what = 'snap'
         if what in ('snap', 'make') and not p.sets.heads() and rng.random() < .7: what = 'fs'
@@ -169,21 +184,22 @@ class Gen:
         elif what == 'make':
             size = rng.choice([512, 512, 512, 1024, 4096] + ([131072] if rng.random() < .2 else []))
             ds = self.ds()
-            self.put(b'make %s %d 1 %d %d' % (ds, self.obj(rng.random() < .15, ds), size, self.fill()))
+            self.put(b'make %s %d %d %d %d' % (ds, self.obj(rng.random() < .15, ds), self.levels(), size, self.fill()))
         elif what == 'write':
             ds = self.ds()
-            self.put(b'write %s %d %d %d' % (ds, self.obj(True, ds), rng.choice([0]*18+[1, 262143]), self.fill()))
+            obj = self.obj(True, ds)
+            self.put(b'write %s %d %d %d' % (ds, obj, self.leaf(ds, obj), self.fill()))
         elif what == 'read':
             ds = self.ds(.4 if p.sets.snapshots() else .1)
-            self.put(b'read %s %d %d' % (ds, self.obj(True, ds), rng.choice([0]*12+[1, 262143])))
+            obj = self.obj(True, ds)
+            self.put(b'read %s %d %d' % (ds, obj, self.leaf_to_read(ds, obj)))
         elif what == 'walk': self.put(b'walk %d' % rng.choice([1, 1, 1, 1, 2, 2, 3, 4, 5, 6]))
         elif what == 'walkall': self.put(b'walk %d' % rng.choice([7, 8, 20, 100, 1000000]))
-        elif what == 'issue': self.put(b'issue 0 %d' % self.n())
-        elif what == 'hold': self.put(b'hold 0 %d' % self.n())
+        elif what in ('issue', 'hold'): self.put(b'%s %d %d' % (what.encode(), self.mirror(), self.n()))
         elif what == 'rot':
             self.rot()
             if rng.random() < .2: self.act('read')
-        elif what == 'vdev': self.put(rng.choice([b'issue', b'hold'])+b' %d %d' % (rng.choice([1, 2, 255]), self.n()))
+        elif what == 'vdev': self.put(rng.choice([b'issue', b'hold'])+b' %d %d' % (self.no_mirror(), self.n()))
         else: self.put(what.encode())
 
     # ---- rounds
@@ -199,7 +215,7 @@ class Gen:
         self.scrub()
         for _ in range(rng.choice([1, 1, 2, 3])):
             if rng.random() < .9: self.act(rng.choice(['walk', 'walk', 'walkall']))
-            if rng.random() < .8: self.put(b'%s 0 %d' % (rng.choice([b'hold', b'hold', b'hold', b'issue']), rng.choice([1, 2, 3, 4, 1024])))
+            if rng.random() < .8: self.put(b'%s %d %d' % (rng.choice([b'hold', b'hold', b'hold', b'issue']), self.mirror(), rng.choice([1, 2, 3, 4, 1024])))
         for _ in range(rng.choice([0, 1, 1, 1, 2])): self.act(rng.choice(['write', 'write', 'write', 'make']))
         if rng.random() < .4: self.tasks(2)
         if rng.random() < .3: self.act(rng.choice(['issue', 'hold', 'walk', 'read', 'scrub']))
@@ -253,7 +269,8 @@ class Gen:
     def drain(self):
         """Mostly all that waits is issued, what is in flight lands, and a sync makes a checkpoint."""
         rng = self.rng
-        if self.pool.scan.waiting and rng.random() < .95: self.put(b'issue 0 1024')
+        for v in range(self.pool.mirrors):
+            if self.pool.scan.waits(v) and rng.random() < .95: self.put(b'issue %d 1024' % v)
         if self.pool.scan.flight and rng.random() < .95: self.act('land')
         if rng.random() < .1: self.act('write')
         self.act('sync')
@@ -309,7 +326,7 @@ class Gen:
         elif rng.random() < .7: self.drain()
         if rng.random() < .7: self.act('walkall')
 
-    def start(self):
+    def start(self, name):
         """Mostly some heads with objects, and a scrub."""
         rng = self.rng
         if rng.random() < .15: return
@@ -371,19 +388,23 @@ class Gen:
             elif not scan.waiting: w['sync'] *= 2
 
     def more(self, name, length):
-        rng = self.rng
         for _ in range(length):
-            r = rng.random()
-            if r < .07: self.held()
-            elif r < (.2 if name == 'tree' else .1): self.shaken()
-            elif r < (.3 if name == 'tree' else .12): self.chased()
-            if CHECKPOINTS and rng.random() < .12: rng.choice([self.parted, self.parted, self.halted, self.late])()
+            self.rounds(name)
             w = self.weights(PROFILES[name])
-            self.act(rng.choices(ACTS+HALTS, [w[k] for k in ACTS+HALTS])[0])
+            self.act(self.rng.choices(ACTS+HALTS, [w[k] for k in ACTS+HALTS])[0])
+
+    def rounds(self, name):
+        """Now and then a round."""
+        rng = self.rng
+        r = rng.random()
+        if r < .07: self.held()
+        elif r < (.2 if name == 'tree' else .1): self.shaken()
+        elif r < (.3 if name == 'tree' else .12): self.chased()
+        if CHECKPOINTS and rng.random() < .12: rng.choice([self.parted, self.parted, self.halted, self.late])()
 
 
-def gen(rng):
-    """A script and images, the pool that the generator ran, and whether the script was spoiled."""
+def flat(rng):
+    """Width, BLOCKS, profile, LIMIT, ID, the images, and those of the pool that the generator runs."""
     W = rng.choice([1, 1, 2, 2, 2, 2, 3, 4])
     B = rng.choice([64, 64, 64, 64, 68, 100, 128]) if rng.random() < .985 else 65536
     profile = rng.choice(['mixed', 'hold', 'hold', 'steps', 'full', 'finish', 'rot', 'rot', 'tree', 'tree', 'tree', 'names'])
@@ -402,9 +423,14 @@ def gen(rng):
         if rng.random() < .01 and len(im) > 0: im[rng.randrange(min(len(im), 4096))] = 1
         imgs.append(im)
     end = max(min(len(i)//512 for i in imgs), start+32)
+    return W, B, profile, limit, idn, imgs, [bytearray(end*512) for _ in range(W)]
+
+
+def script(rng, kind, W, B, profile, limit, idn, imgs, own):
+    """A script and images, the pool that the generator ran, and whether the script was spoiled."""
     every = rng.choice([1, 1, 2, 2, 3, 4, 1000, 1000]) if CHECKPOINTS else None
-    g = Gen(rng, Pool(idn, W, limit, every, start, end, [bytearray(end*512) for _ in range(W)]))
-    g.start()
+    g = kind(rng, Pool(idn, W, limit, every, B, own))
+    g.start(profile)
     g.more(profile, rng.choice([0, 5, 10, 20, 40, 40, 60, 90]))
     if rng.random() < .3: g.act('list')
     if rng.random() < .5: g.act('status')
@@ -412,3 +438,6 @@ def gen(rng):
     spoiled = rng.random() < .12
     if spoiled: spoil(rng, L)
     return decorate(rng, L), imgs, g.pool, spoiled
+
+
+def gen(rng): return script(rng, Gen, *flat(rng))

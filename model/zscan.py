@@ -8,14 +8,18 @@
   zscan.py --show SEED              one script and the model's answer
   zscan.py --rows                   worked examples in the model alone
 
-With CHECKPOINTS=1 in the environment EVERY counts, and scripts have the lines pause, resume and stop.
+With CHECKPOINTS=1 in the environment EVERY counts, and scripts have the lines pause, resume and stop. With SPACE=1 there are several
+mirrors, objects have levels, and space is given again.
 """
 import collections, os, random, shutil, subprocess, sys, tempfile
 sys.dont_write_bytecode = True  # the folder keeps its files alone
+import crowded, scripts
 from faulty import BAD, LATER
+from lines import SPACE
 from pool import answer, run
 from rows import rows
-from scripts import gen
+
+gen = crowded.gen if SPACE else scripts.gen
 
 
 # ---- running PROGRAM
@@ -78,12 +82,12 @@ def tell(seed, what, want, got, s):
 def lines(binp):
     d = tempfile.mkdtemp()
     bad = n = 0
-    words = ['step', os.path.join(d, 'im0'), os.path.join(d, 'im1')]
+    words = ['step']+[os.path.join(d, 'im%d' % i) for i in range(4 if SPACE else 2)]
     for l in BAD+LATER:
         scripts = [b'pool 7 2 8 4 64\nfs a\nsync\nmake a 1 1 512 5\nsnap a s\nsync\n'+l+b'\nstatus\nsync\nlist\n', l+b'\n']
         if l in BAD: scripts.append(b'pool 7 2 8 4 64\nfs a\n  '+l.replace(b' ', b'  ')+b'  ')
         for s in scripts:
-            imgs = [bytearray(400*512), bytearray(400*512)]
+            imgs = [bytearray(400*512) for _ in words[1:]]
             what, want, got = differs(binp, d, words, words[1:], s, imgs)
             n += 1
             if what:
@@ -169,7 +173,7 @@ def check(seed, count):
 
 if __name__ == '__main__':
     a = sys.argv[1:]
-    if a == ['--rows']: rows()
+    if a == ['--rows']: rows(SPACE)
     elif len(a) == 3 and a[0] == '--stats': stats(int(a[1]), int(a[2]))
     elif len(a) == 3 and a[0] == '--check': check(int(a[1]), int(a[2]))
     elif len(a) == 2 and a[0] == '--lines': sys.exit(1 if lines(os.path.abspath(a[1])) else 0)
